@@ -1,0 +1,52 @@
+-- Document 01's refusal numbers by name, and what each case of an answer stands for in that paper's own terms.
+use Prim.Native.Nat.{ℕ}
+use Rattle.answer.specs.declared.Answer.{Answer}
+use Rattle.answer.specs.declared.Answer.the-variants.{Accepted, Refused}
+use Rattle.answer.specs.declared.Counts.{Counts}
+
+-- the numbers
+abbrev pub brokenTable : ℕ
+brokenTable = 1
+abbrev pub messageEnds : ℕ
+messageEnds = 2
+abbrev pub aboveSpan : ℕ
+aboveSpan = 3
+abbrev pub noBranch : ℕ
+noBranch = 4
+abbrev pub badLength : ℕ
+badLength = 5
+abbrev pub aboveMost : ℕ
+aboveMost = 6
+abbrev pub badVariable : ℕ
+badVariable = 7
+abbrev pub noRoom : ℕ
+noRoom = 8
+abbrev pub notPadding : ℕ
+notPadding = 9
+abbrev pub wrongVersion : ℕ
+wrongVersion = 10
+abbrev pub wrongSubtype : ℕ
+wrongSubtype = 11
+abbrev pub wrongValue : ℕ
+wrongValue = 12
+abbrev pub tooLong : ℕ
+tooLong = 13
+
+-- an outcome as document 01 tells it: a refusal's number, 0 where it is accepted; its place; the values, bits and octets counted
+pub record Outcome : Type 0 where
+  pub number : ℕ
+  pub place : ℕ
+  pub values : ℕ
+  pub bits : ℕ
+  pub octets : ℕ
+
+abbrev pub outcomeOf : Answer → Outcome
+outcomeOf (Accepted c) = record { number = 0; place = 0; values = c .values; bits = c .bits .0; octets = c .octets .0 }
+outcomeOf (Refused r) = record { number = r .number; place = r .place; values = 0; bits = 0; octets = 0 }
+
+-- answers, made in these few places alone
+abbrev pub refused : ℕ → ℕ → Answer
+refused number place = Refused (record { number = number; place = place })
+
+abbrev pub accepted : ℕ → ℕ → ℕ → Answer
+accepted values bits octets = Accepted (record { values = values; bits = record { 0 = bits }; octets = record { 0 = octets } })

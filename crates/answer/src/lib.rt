@@ -1,0 +1,67 @@
+// What a call answers: accepted with its counts, or refused with a number and a place (document 01, "Refusal numbers").
+use bits::BitPlace;
+use bits::OctetSize;
+ghost use mathlib.Core.Path.{_≡_};
+ghost use Rattle.answer.specs.Numbers.{accepted, refused};
+
+// What an accepted call counts. Reading tells the values and the bits of the root, which is the place after it; writing
+// tells the octets; a check tells nothing, so that each count is 0.
+pub struct Counts {
+    pub values: usize,
+    pub bits: BitPlace,
+    pub octets: OctetSize,
+}
+
+// A refusal: its number, and its place, counted in what the number asks for (bits of a message, values of a list).
+pub struct Refusal {
+    pub number: u32,
+    pub place: usize,
+}
+
+pub enum Answer {
+    Accepted(Counts),
+    Refused(Refusal),
+}
+
+impl Refusal {
+    // The table breaks a rule.
+    pub const BROKEN_TABLE: u32 = 1;
+    // The message ends inside an item, or is empty.
+    pub const MESSAGE_ENDS: u32 = 2;
+    // A number above its span.
+    pub const ABOVE_SPAN: u32 = 3;
+    // An index of no branch, or of a reserved one.
+    pub const NO_BRANCH: u32 = 4;
+    // A length in a form that is not its own.
+    pub const BAD_LENGTH: u32 = 5;
+    // A length outside its row.
+    pub const ABOVE_MOST: u32 = 6;
+    // A variable number that starts 1111.
+    pub const BAD_VARIABLE: u32 = 7;
+    // No place for the next value, or the next bits.
+    pub const NO_ROOM: u32 = 8;
+    // Padding that is not zero, or octets left.
+    pub const NOT_PADDING: u32 = 9;
+    // An LM whose version is not 3.
+    pub const WRONG_VERSION: u32 = 10;
+    // An LM whose subtype is not 0, 1 or 2.
+    pub const WRONG_SUBTYPE: u32 = 11;
+    // A value missing, outside its row, or left over.
+    pub const WRONG_VALUE: u32 = 12;
+    // A message above 65,535 octets.
+    pub const TOO_LONG: u32 = 13;
+}
+
+impl Answer {
+    pub fn refused(number: u32, place: usize) -> Answer
+        ensures { λ r. ⌜ r ≡ refused number place ⌝ }
+    {
+        Answer::Refused(Refusal { number, place })
+    }
+
+    pub fn accepted(values: usize, bits: BitPlace, octets: OctetSize) -> Answer
+        ensures { λ r. ⌜ r ≡ accepted values (bits .0) (octets .0) ⌝ }
+    {
+        Answer::Accepted(Counts { values, bits, octets })
+    }
+}

@@ -1,0 +1,227 @@
+-- Five octets of a list as one number of 40 bits: the bits from a place on are cut out of it, and storing it with some of its
+-- bits replaced replaces those bits of the list. A window may run past the list's end: the list is followed by five octets 0
+-- here, and only what lies in the list is compared.
+use Prim.Native.Nat.{ℕ, zero, suc, _+_, _-_, _*_, _^_, _/_, _%_, _≤_, _<_}
+use mathlib.Core.Bool.{Bool}
+use mathlib.Core.Path.{_≡_, refl, sym, ap, ap₂, _∙_}
+use mathlib.Core.List.{List, [], _∷_, _++_}
+use native.Mathlib.Omega.{arith}
+use native.Mathlib.Decide.{decLt}
+use native.Mathlib.Nat.{div-add-mod'}
+use lib.ListN.{length, getD, take, drop, set, replicate, length-append, length-take, length-set, List·getD-append, List·getD-eq-default}
+use lib.Seq.{sets, sets-eq, set-getD, set-out, take-at, take-set-lt, take-set-le, length-take-le, getD-append-add, drop-append-add}
+use Rattle.bits.specs.Bits.{numberOf, bitsOf, unpack}
+use Rattle.bits.specs.Window.{windowAt, withWindow, placed}
+use Rattle.bits.proofs.Bits.{length-bitsOf, numberOf-bitsOf, bitsOf-numberOf, numberOf-append, length-unpack, unpack-append, unpack-take}
+use Rattle.bits.proofs.Splice.{spliced, length-spliced, spliced-append, append-spliced, part-append}
+use Rattle.bits.proofs.Parts.{numberOf-middle, bitsOf-placed, placed-lt}
+
+-- ---- five octets as a number
+
+-- the octets of a number of 40 bits
+abbrev octetsOf : ℕ → List ℕ
+octetsOf w = w / 4294967296 % 256 ∷ w / 16777216 % 256 ∷ w / 65536 % 256 ∷ w / 256 % 256 ∷ w % 256 ∷ []
+
+-- an octet more, on top
+numberOf-octet : (o : ℕ) (s : List ℕ) → o < 256 → numberOf (unpack (o ∷ s)) ≡ o * 2 ^ (8 * length s) + numberOf (unpack s)
+unfolding unpack
+numberOf-octet o s h = rw (numberOf-append (bitsOf 8 o) (unpack s), numberOf-bitsOf 8 o h, length-unpack s)
+
+-- five octets are the bits of their number
+unpack-five : (a b c d e : ℕ) → a < 256 → b < 256 → c < 256 → d < 256 → e < 256
+    → unpack (a ∷ b ∷ c ∷ d ∷ e ∷ []) ≡ bitsOf 40 (a * 4294967296 + b * 16777216 + c * 65536 + d * 256 + e)
+unfolding numberOf unpack
+unpack-five a b c d e ha hb hc hd he =
+    let s : List ℕ = a ∷ b ∷ c ∷ d ∷ e ∷ [] in
+    let n : numberOf (unpack s) ≡ a * 4294967296 + b * 16777216 + c * 65536 + d * 256 + e =
+    rw (
+      numberOf-octet a (b ∷ c ∷ d ∷ e ∷ []) ha,
+      numberOf-octet b (c ∷ d ∷ e ∷ []) hb,
+      numberOf-octet c (d ∷ e ∷ []) hc,
+      numberOf-octet d (e ∷ []) hd,
+      numberOf-octet e [] he,
+    )
+    (omega arith) in
+    sym (bitsOf-numberOf (unpack s)) ∙ ap₂ bitsOf (length-unpack s) n
+
+-- digits, each with the number above it, joined
+horner : (x₀ x₁ x₂ x₃ x₄ r₀ r₁ r₂ r₃ : ℕ) → x₁ * 256 + r₀ ≡ x₀ → x₂ * 256 + r₁ ≡ x₁ → x₃ * 256 + r₂ ≡ x₂ → x₄ * 256 + r₃ ≡ x₃
+    → x₄ * 4294967296 + r₃ * 16777216 + r₂ * 65536 + r₁ * 256 + r₀ ≡ x₀
+horner x₀ x₁ x₂ x₃ x₄ r₀ r₁ r₂ r₃ e₀ e₁ e₂ e₃ = omega arith
+
+-- the octets of a number are its digits
+digits : (w : ℕ) → w < 2 ^ 40
+    → w / 4294967296 % 256 * 4294967296 + w / 16777216 % 256 * 16777216 + w / 65536 % 256 * 65536 + w / 256 % 256 * 256 + w % 256 ≡ w
+digits w h =
+    let small : w / 4294967296 < 256 = omega arith in
+    let whole : w / 4294967296 % 256 ≡ w / 4294967296 = omega arith in
+    let above : w / 4294967296 ≡ w / 16777216 / 256 = omega arith in
+    let e₃ : w / 4294967296 % 256 * 256 + w / 16777216 % 256 ≡ w / 16777216 = rw (whole ∙ above) (div-add-mod' (w / 16777216) 256) in
+    horner w (w / 256) (w / 65536) (w / 16777216) (w / 4294967296 % 256) (w % 256) (w / 256 % 256) (w / 65536 % 256) (w / 16777216 % 256)
+    (omega arith) (omega arith) (omega arith) e₃
+
+unpack-octetsOf : (w : ℕ) → w < 2 ^ 40 → unpack (octetsOf w) ≡ bitsOf 40 w
+unpack-octetsOf w h =
+    unpack-five (w / 4294967296 % 256) (w / 16777216 % 256) (w / 65536 % 256) (w / 256 % 256) (w % 256)
+    (omega arith) (omega arith) (omega arith) (omega arith) (omega arith)
+    ∙ ap (bitsOf 40) (digits w h)
+
+-- ---- storing five octets
+
+withWindow-sets : (m : List ℕ) (j w : ℕ) → withWindow m j w ≡ sets m j (octetsOf w)
+withWindow-sets m j w =
+    let e1 : j + 1 ≡ suc j = omega arith in
+    let e2 : j + 2 ≡ suc (suc j) = omega arith in
+    let e3 : j + 3 ≡ suc (suc (suc j)) = omega arith in
+    let e4 : j + 4 ≡ suc (suc (suc (suc j))) = omega arith in
+    rw (e1, e2, e3, e4)
+
+-- a window put back where it was read changes nothing
+put-back : (m : List ℕ) (octets : (i : ℕ) → getD m i 0 < 256) (j : ℕ) → withWindow m j (windowAt m j) ≡ m
+put-back m octets j =
+    let w = windowAt m j in
+    let o₀ = octets j in
+    let o₁ = octets (j + 1) in
+    let o₂ = octets (j + 2) in
+    let o₃ = octets (j + 3) in
+    let o₄ = octets (j + 4) in
+    let a : w / 4294967296 % 256 ≡ getD m j 0 = omega arith in
+    let b : w / 16777216 % 256 ≡ getD m (j + 1) 0 = omega arith in
+    let c : w / 65536 % 256 ≡ getD m (j + 2) 0 = omega arith in
+    let d : w / 256 % 256 ≡ getD m (j + 3) 0 = omega arith in
+    let e : w % 256 ≡ getD m (j + 4) 0 = omega arith in
+    rw (a, b, c, d, e) (simp set-getD)
+
+-- ---- a list followed by five octets 0
+
+abbrev padded : List ℕ → List ℕ
+padded m = m ++ replicate 5 0
+
+-- past its end as well
+zeros-at : (n i : ℕ) → _≡_ {A = ℕ} (getD (replicate n 0) i 0) 0
+zeros-at zero i = refl
+zeros-at (suc n) zero = refl
+zeros-at (suc n) (suc i) = zeros-at n i
+
+padded-at : (m : List ℕ) (i : ℕ) → getD (padded m) i 0 ≡ getD m i 0
+padded-at m i = elim (decLt i (length m)) [
+  | yes h ↦ List·getD-append m (replicate 5 0) 0 i h
+  | no h ↦
+      let e : length m + (i - length m) ≡ i = omega arith in
+      let l : length m ≤ i = omega arith in
+      (rw e at (getD-append-add m (replicate 5 0) (i - length m) 0)) ∙ zeros-at 5 (i - length m) ∙ sym (List·getD-eq-default m 0 l)
+]
+
+take-set : {A : Type 0} (n : ℕ) (l : List A) (i : ℕ) (a : A) → take n (set l i a) ≡ set (take n l) i a
+take-set n l i a = elim (decLt i n) [
+  | yes h ↦ take-set-lt n l i a h
+  | no h ↦ take-set-le n l i a (omega arith) ∙ sym (set-out (take n l) i a (rw length-take (omega arith)))
+]
+
+-- what lies past the end is not stored
+put-padded : (m : List ℕ) (j w : ℕ) → take (length m) (withWindow (padded m) j w) ≡ withWindow m j w
+put-padded m j w = simp (take-set, take-at m (replicate 5 0) (length m) refl)
+
+module _ (m : List ℕ) (octets : (i : ℕ) → getD m i 0 < 256) (j : ℕ) (inside : j ≤ length m) where
+  abbrev before : List Bool
+  before = unpack (take j (padded m))
+
+  abbrev behind : List Bool
+  behind = unpack (drop (j + 5) (padded m))
+
+  length-before : length before ≡ 8 * j
+  length-before = rw (length-unpack, length-take-le j (padded m) (rw length-append (omega arith)))
+
+  -- the bits of the list with a number stored at j
+  put-bits : (w : ℕ) → w < 2 ^ 40 → unpack (withWindow (padded m) j w) ≡ before ++ bitsOf 40 w ++ behind
+  put-bits w h =
+      ap unpack (withWindow-sets (padded m) j w ∙ sets-eq (octetsOf w) (padded m) j (rw length-append (omega arith)))
+      ∙ unpack-append (take j (padded m) ++ octetsOf w) (drop (j + 5) (padded m))
+      ∙ ap (λ b. b ++ behind) (unpack-append (take j (padded m)) (octetsOf w) ∙ ap (before ++_) (unpack-octetsOf w h))
+
+  window-lt : windowAt m j < 2 ^ 40
+  window-lt = omega (arith, octets j, octets (j + 1), octets (j + 2), octets (j + 3), octets (j + 4))
+
+  padded-window : windowAt (padded m) j ≡ windowAt m j
+  padded-window = simp padded-at
+
+  -- and with what was there
+  was-bits : unpack (padded m) ≡ before ++ bitsOf 40 (windowAt m j) ++ behind
+  was-bits =
+      sym (ap unpack (put-back (padded m) (λ i. rw padded-at (octets i)) j))
+      ∙ ap (λ w. unpack (withWindow (padded m) j w)) padded-window
+      ∙ put-bits (windowAt m j) window-lt
+
+-- ---- k bits of the window, s after its first and with t behind them
+
+module _ (m : List ℕ) (octets : (i : ℕ) → getD m i 0 < 256) (j s k t : ℕ) (all : s + k + t ≡ 40) (fits : 8 * j + s + k ≤ 8 * length m) where
+  inside : j ≤ length m
+  inside = omega arith
+
+  abbrev bits : List Bool
+  bits = bitsOf 40 (windowAt m j)
+
+  abbrev rest : List Bool
+  rest = behind m octets j inside
+
+  abbrev first : List Bool
+  first = before m octets j inside
+
+  within : windowAt m j < 2 ^ (s + k + t)
+  within = rw all (window-lt m octets j inside)
+
+  part-window : take k (drop (8 * j + s) (unpack m)) ≡ take k (drop s bits)
+  part-window =
+      let l = length-before m octets j inside in
+      let enough : 8 * j + s + k ≤ length (first ++ bits) = rw (length-append, l, length-bitsOf) (omega arith) in
+      sym (part-append (unpack m) (unpack (replicate 5 0)) (8 * j + s) k (rw length-unpack fits))
+      ∙ ap (λ b. take k (drop (8 * j + s) b)) (sym (unpack-append m (replicate 5 0)) ∙ was-bits m octets j inside)
+      ∙ part-append (first ++ bits) rest (8 * j + s) k enough
+      ∙ ap (λ n. take k (drop (n + s) (first ++ bits))) (sym l)
+      ∙ ap (take k) (drop-append-add first bits s)
+
+  number-window : numberOf (take k (drop (8 * j + s) (unpack m))) ≡ windowAt m j / 2 ^ t % 2 ^ k
+  number-window = ap numberOf part-window ∙ (rw all at (numberOf-middle s k t (windowAt m j) within))
+
+  module _ (v : ℕ) (hv : v < 2 ^ k) where
+    abbrev new : ℕ
+    new = placed (windowAt m j) t k v
+
+    put-padded-window : unpack (withWindow (padded m) j new) ≡ spliced (unpack (padded m)) (8 * j + s) (bitsOf k v)
+    put-padded-window =
+        let l = length-before m octets j inside in
+        let enough : 8 * j + s + length (bitsOf k v) ≤ length (first ++ bits) =
+        rw (length-append, l, length-bitsOf k v, length-bitsOf 40 (windowAt m j)) (omega arith) in
+        let middle = rw l at (append-spliced first bits s (bitsOf k v)) in
+        put-bits m octets j inside new (rw all at (placed-lt s k t (windowAt m j) within v hv))
+        ∙ ap (λ b. first ++ b ++ rest) (rw all at (bitsOf-placed s k t (windowAt m j) within v hv))
+        ∙ ap (λ b. b ++ rest) (sym middle)
+        ∙ sym (spliced-append (first ++ bits) (8 * j + s) (bitsOf k v) enough rest)
+        ∙ ap (λ b. spliced b (8 * j + s) (bitsOf k v)) (sym (was-bits m octets j inside))
+
+    put-window : unpack (withWindow m j new) ≡ spliced (unpack m) (8 * j + s) (bitsOf k v)
+    put-window =
+        let enough : 8 * j + s + length (bitsOf k v) ≤ length (unpack m) = rw (length-bitsOf, length-unpack) fits in
+        let long : length m ≤ length (withWindow (padded m) j new) = simp (length-set, length-append) (omega arith) in
+        ap unpack (sym (put-padded m j new))
+        ∙ unpack-take (length m) (withWindow (padded m) j new) long
+        ∙ ap (take (8 * length m)) put-padded-window
+        ∙ ap (λ b. take (8 * length m) (spliced b (8 * j + s) (bitsOf k v))) (unpack-append m (replicate 5 0))
+        ∙ ap (take (8 * length m)) (spliced-append (unpack m) (8 * j + s) (bitsOf k v) enough (unpack (replicate 5 0)))
+        ∙ take-at (spliced (unpack m) (8 * j + s) (bitsOf k v)) (unpack (replicate 5 0)) (8 * length m)
+        (length-spliced (unpack m) (8 * j + s) (bitsOf k v) enough ∙ length-unpack m)
+
+-- ---- k bits from a place on
+
+module _ (m : List ℕ) (octets : (i : ℕ) → getD m i 0 < 256) (p k : ℕ) (narrow : p % 8 + k ≤ 40) (fits : p + k ≤ 8 * length m) where
+  place : 8 * (p / 8) + p % 8 ≡ p
+  place = omega arith
+
+  -- the number that they spell is cut out of the window at their first octet
+  pub number-in-window : numberOf (take k (drop p (unpack m))) ≡ windowAt m (p / 8) / 2 ^ (40 - p % 8 - k) % 2 ^ k
+  number-in-window = rw place at (number-window m octets (p / 8) (p % 8) k (40 - p % 8 - k) (omega arith) (omega arith))
+
+  -- that window with the bits of v in their place, stored, replaces them and nothing else
+  pub put-in-window : (v : ℕ) → v < 2 ^ k
+      → unpack (withWindow m (p / 8) (placed (windowAt m (p / 8)) (40 - p % 8 - k) k v)) ≡ spliced (unpack m) p (bitsOf k v)
+  put-in-window v hv = rw place at (put-window m octets (p / 8) (p % 8) k (40 - p % 8 - k) (omega arith) (omega arith) v hv)

@@ -1,0 +1,126 @@
+// Bits of a message, counted from the top bit of each octet: up to 32 of them fetched as a number, and up to 32 stored.
+// Both take whole octets, five at a time, and no step for each bit.
+mod word;
+
+ghost use mathlib.Core.Path.{_≡_};
+ghost use Prim.Native.Nat.{_+_, _-_, _*_, _/_, _%_, _<_, _≤_, _^_};
+ghost use lib.Dec.{leb};
+ghost use lib.ListN.{length};
+ghost use Rattle.bits.specs.Bits.{bitsOf, unpack};
+ghost use Rattle.bits.specs.Access.{fetched, stored, overwritten};
+ghost use Rattle.bits.specs.Window.{placed};
+
+// A place in a message, counted in bits from its first (document 01: place).
+pub struct BitPlace(pub usize);
+
+// A size in octets.
+pub struct OctetSize(pub usize);
+
+impl BitPlace {
+    // The place after that many octets.
+    pub fn after(size: OctetSize) -> BitPlace
+        requires { ⌜ size .0 ≤ 65535 ⌝ }
+        ensures { λ r. ⌜ r .0 ≡ size .0 * 8 ⌝ }
+    {
+        BitPlace(size.0 * 8)
+    }
+
+    // The whole octets before a place.
+    pub fn octets_before(place: BitPlace) -> OctetSize
+        ensures { λ r. ⌜ r .0 ≡ place .0 / 8 ⌝ }
+    {
+        OctetSize(place.0 / 8)
+    }
+
+    // How many bits of the octet that a place stands in come before it.
+    pub fn bits_into_octet(place: BitPlace) -> u32
+        ensures { λ r. ⌜ r ≡ place .0 % 8 ⌝ }
+    {
+        (place.0 % 8) as u32
+    }
+}
+
+// What fetching bits gives: their number and the place after them, or that the message ends before.
+pub enum Fetched {
+    Bits(u32, BitPlace),
+    Short,
+}
+
+// What storing bits gives: the place after them, or that the output ends before.
+pub enum Stored {
+    Next(BitPlace),
+    Full,
+}
+
+// A power of two.
+fn power(k: u32) -> u64
+    requires { ⌜ k ≤ 40 ⌝ }
+    ensures { λ r. ⌜ (r ≡ 2 ^ k) × (0 < r) ⌝ }
+{
+    1u64 << k
+}
+
+// Whether the k bits from a place on lie within so many octets.
+fn inside(octets: usize, place: BitPlace, k: u32) -> bool
+    requires { ⌜ octets ≤ 65535 ⌝ }
+    ensures { λ r. ⌜ r ≡ leb (place .0 + k) (8 * octets) ⌝ }
+{
+    let from = place.0;
+    let end = BitPlace::after(OctetSize(octets));
+    let all = end.0;
+    if all < from {
+        return false;
+    }
+    k as usize <= all - from
+}
+
+// How many bits follow the k from a place on in the five octets that begin with the place's.
+fn bits_behind(place: BitPlace, k: u32) -> u32
+    requires { ⌜ k ≤ 32 ⌝ }
+    ensures { λ r. ⌜ r ≡ 40 - place .0 % 8 - k ⌝ }
+{
+    40 - BitPlace::bits_into_octet(place) - k
+}
+
+// The k bits from a place on, as a number.
+pub fn fetch(message: &[u8], place: BitPlace, k: u32) -> Fetched
+    requires { ⌜ (length (now message) ≤ 65535) × (k ≤ 32) ⌝ }
+    ensures { λ r. ⌜ r ≡ fetched (now (message .entry)) (place .0) k ⌝ }
+{
+    if !inside(message.len(), place, k) {
+        return Fetched::Short;
+    }
+    let from = place.0;
+    let first = BitPlace::octets_before(place);
+    let window = word::window(message, first.0);
+    let cut = (window >> bits_behind(place, k)) % power(k);
+    Fetched::Bits(cut as u32, BitPlace(from + k as usize))
+}
+
+// A number of 40 bits, with the k above the lowest `below` replaced by those of v.
+fn replace(window: u64, below: u32, k: u32, v: u32) -> u64
+    requires { ⌜ (window < 2 ^ 40) × (k + below ≤ 40) × (v < 2 ^ k) ⌝ }
+    ensures { λ r. ⌜ r ≡ placed window below k v ⌝ }
+{
+    let room = power(k);
+    let unit = power(below);
+    let high = window / unit / room;
+    let upper = high * room + v as u64;
+    upper * unit + window % unit
+}
+
+// Stores the k bits of v from a place on; every other bit stays.
+pub fn store(output: &mut [u8], place: BitPlace, k: u32, v: u32) -> Stored
+    requires { ⌜ (length (now output) ≤ 65535) × (k ≤ 32) × (v < 2 ^ k) ⌝ }
+    ensures { λ r. ⌜ (r ≡ stored (now (output .entry)) (place .0) k) × (unpack (now (output .exit)) ≡ overwritten (unpack (now (output .entry))) (place .0) (bitsOf k v)) ⌝ }
+{
+    if !inside(output.len(), place, k) {
+        return Stored::Full;
+    }
+    let from = place.0;
+    let first = BitPlace::octets_before(place);
+    let at = first.0;
+    let window = word::window(output, at);
+    word::put_window(output, at, replace(window, bits_behind(place, k), k, v));
+    Stored::Next(BitPlace(from + k as usize))
+}

@@ -1,0 +1,5 @@
+pub mod Code
+pub mod Answers
+pub mod Steps
+pub mod Laws
+pub mod Ranges

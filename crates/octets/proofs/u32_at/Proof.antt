@@ -1,0 +1,14 @@
+-- `octets::u32_at` meets its contract. Both halves are what `u16_at` gives.
+use borrow.Author.Needs.{needs}
+use Rattle.octets.specs.Numbers.{u32}
+use Rattle.octets.proofs.u32_at.Statement.{statement}
+use Rattle.octets.proofs.u32_at.Tie as tie
+
+returns : tie.Need-returns
+unfolding u32
+returns c = search needs
+
+pub u32-at-spec : {M : Type 1} → statement M
+u32-at-spec =
+    tie.close
+    (tie.spec (λ c κs. search needs) (λ c. search needs) (λ c κs. search needs) (λ c. search needs) (λ c. search needs) returns)

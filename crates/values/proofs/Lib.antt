@@ -1,0 +1,4 @@
+mod Complement
+mod Fill
+mod LittleEndian
+pub mod Stores
