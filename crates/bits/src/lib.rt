@@ -3,7 +3,7 @@
 mod word;
 
 ghost use mathlib.Core.Path.{_≡_};
-ghost use Prim.Native.Nat.{_+_, _-_, _*_, _/_, _%_, _<_, _≤_, _^_};
+ghost use Prim.Native.Nat.{_+_, _-_, _*_, _/_, _%_, _<_, _≤_, _^_, max};
 ghost use lib.Dec.{leb};
 ghost use lib.ListN.{length};
 ghost use Rattle.bits.specs.Bits.{bitsOf, unpack};
@@ -37,6 +37,20 @@ impl BitPlace {
         ensures { λ r. ⌜ r ≡ place .0 % 8 ⌝ }
     {
         (place.0 % 8) as u32
+    }
+}
+
+impl OctetSize {
+    // The octets that hold every bit before a place, and one where there are none.
+    pub fn holding(place: BitPlace) -> OctetSize
+        requires { ⌜ place .0 ≤ 524280 ⌝ }
+        ensures { λ r. ⌜ r .0 ≡ max 1 ((place .0 + 7) / 8) ⌝ }
+    {
+        let whole = (place.0 + 7) / 8;
+        if whole < 1 {
+            return OctetSize(1);
+        }
+        OctetSize(whole)
     }
 }
 

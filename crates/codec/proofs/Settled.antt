@@ -1,0 +1,98 @@
+-- From the outcome that was kept to what the slices hold once their rest is zeroed; and from the check's answer to the verdict.
+-- Assumes nothing.
+use Prim.Native.Nat.{ℕ, zero, suc, _+_, _-_, _*_, _/_, _≤_, _<_}
+use mathlib.Core.Bool.{Bool, true, false, cond, _&&_}
+use mathlib.Core.Path.{_≡_, refl, sym, ap, ap₂, _∙_, subst}
+use mathlib.Core.List.{List, [], _∷_, _++_}
+use native.Mathlib.Omega.{arith}
+use native.Mathlib.Nat.{sub-zero, mul-comm}
+use lib.Dec.{leb, eqb}
+use lib.IntN.{ℤ, pos}
+use lib.ListN.{length, take, drop, set, replicate}
+use borrow.Author.Tests.{le-leb, lt-leb}
+use Rattle.bits.specs.Bits.{unpack}
+use Rattle.answer.specs.Numbers.{accepted, refused}
+use Rattle.answer.specs.declared.Answer.{Answer}
+use Rattle.answer.specs.declared.Answer.the-variants.{Accepted, Refused}
+use Rattle.answer.specs.declared.Counts.{Counts}
+use Rattle.answer.specs.declared.Refusal.{Refusal}
+use Rattle.values.specs.Values.{setValue, storeAll, listOctets}
+use Rattle.values.proofs.Stores.{length-storeAll-set, length-storeAll-setValue, cleared-values, cleared-octets, length-listOctets}
+use Rattle.table.specs.Rules.{Obeys}
+use Rattle.table.specs.Verdict.{Verdict, passed, broken, verdict, checked}
+use Rattle.table.proofs.Decides.{passes-exactly}
+use Rattle.encoding.specs.Items.{Items}
+use Rattle.encoding.specs.Rows.{asks}
+use Rattle.encoding.specs.Encoding.{size}
+use Rattle.encoding.specs.Reading.{Reading, done, stuck, readItems, ReadOutcome, accept, refuse, allZero, closeRead, decode, onPassed, readOutcome, readAnswer, readValues}
+use Rattle.encoding.specs.Calls.{filled, valuesAfter}
+use Rattle.encoding.proofs.ReadItems.{read-sound}
+use Rattle.codec.specs.Kept.{KeptBy, keptCount, messageOutcome}
+
+-- ── the verdict ──
+
+pub accepted-passed : (v : Verdict) (counts : Counts) → checked v ≡ Accepted counts → v ≡ passed
+accepted-passed passed counts e = refl
+accepted-passed (broken n p) counts e = let z : _≡_ {A = ℕ} 0 1 = cc in absurd (omega arith)
+
+pub accepted-obeys : (t : List ℕ) (r : Answer) (counts : Counts) → r ≡ checked (verdict t) → r ≡ Accepted counts → Obeys t
+accepted-obeys t r counts e a = passes-exactly t .0 (accepted-passed (verdict t) counts (sym e ∙ a))
+
+-- the outcome under a table that passed
+pub passed-outcome : (t s : List ℕ) (room : ℕ) → Obeys t → readOutcome t s room ≡ messageOutcome t s room
+unfolding readOutcome
+passed-outcome t s room h = rw (passes-exactly t .1 h)
+
+-- and under one that didn't
+pub broken-outcome : (t s : List ℕ) (room : ℕ) (r : Answer) (refusal : Refusal) → r ≡ checked (verdict t) → r ≡ Refused refusal
+  → (r ≡ readAnswer (readOutcome t s room)) × (readValues (readOutcome t s room) ≡ [])
+unfolding readOutcome
+broken-outcome t s room r refusal e a = go (verdict t) (sym e ∙ a) e
+  where
+    go : (v : Verdict) → checked v ≡ Refused refusal → r ≡ checked v → (r ≡ readAnswer (onPassed v (messageOutcome t s room))) × (readValues (onPassed v (messageOutcome t s room)) ≡ [])
+    go passed q e = let z : _≡_ {A = ℕ} 0 1 = cc in absurd (omega arith)
+    go (broken n p) q e = (e, refl)
+
+-- no octets
+pub empty-outcome : (t s : List ℕ) (room : ℕ) → length s ≡ 0 → messageOutcome t s room ≡ refuse 2 0
+empty-outcome t [] room h = refl
+empty-outcome t (o ∷ os) room h = absurd (omega arith)
+
+-- ── room ──
+
+pub decode-fits : (p : Items) (s : List ℕ) (room : ℕ) (vs : List ℤ) (n : ℕ) → decode p s room ≡ accept vs n → length vs ≤ room
+decode-fits p [] room vs n e = let z : _≡_ {A = ℕ} 0 1 = cc in absurd (omega arith)
+decode-fits p (o ∷ os) room vs n e = go (readItems p (unpack (o ∷ os)) room 0) refl e
+  where
+    test : (t : Bool) (us : List ℤ) (at : ℕ) → cond t (accept us at) (refuse 9 at) ≡ accept vs n → us ≡ vs
+    test true us at e = cc
+    test false us at e = cc
+    go : (x : Reading) → readItems p (unpack (o ∷ os)) room 0 ≡ x → closeRead (length (o ∷ os)) x ≡ accept vs n → length vs ≤ room
+    go (stuck m at) q e = let z : _≡_ {A = ℕ} 0 1 = cc in absurd (omega arith)
+    go (done us at r) q e = rw (← test (eqb (length (o ∷ os)) (size at) && allZero r) us at e) (read-sound p (unpack (o ∷ os)) room 0 us at r q .fits)
+
+pub outcome-fits : (t s : List ℕ) (room : ℕ) → length (readValues (messageOutcome t s room)) ≤ room
+outcome-fits t s room = go (leb (length s) 65535) (decode (asks t) s room) refl
+  where
+    go : (b : Bool) (x : ReadOutcome) → decode (asks t) s room ≡ x → length (readValues (cond b x (refuse 13 0))) ≤ room
+    go false x q = omega arith
+    go true (refuse n p) q = omega arith
+    go true (accept vs n) q = decode-fits (asks t) s room vs n q
+
+-- ── zeros ──
+
+-- an answer tells how many values its outcome has
+pub count-is : (x : ReadOutcome) → keptCount (readAnswer x) ≡ length (readValues x)
+count-is (accept vs n) = refl
+count-is (refuse n p) = refl
+
+pub settled-values : (x : ReadOutcome) (old new : List ℤ) → length (readValues x) ≤ length old → length new ≡ length old → KeptBy set x old new
+  → take (length (readValues x)) new ++ replicate (length new - length (readValues x)) (pos 0) ≡ valuesAfter (length old) x
+settled-values (accept vs n) old new l e k = rw (e, k) (cleared-values vs old l)
+settled-values (refuse n p) old new l e k = ap (λ m. replicate (m - 0) (pos 0)) e
+
+pub settled-packed : (x : ReadOutcome) (old new : List ℕ) → 8 * length (readValues x) ≤ length old → length new ≡ length old → KeptBy setValue x old new
+  → take (8 * length (readValues x)) new ++ replicate (length new - 8 * length (readValues x)) 0 ≡ filled 0 (length old) (listOctets (readValues x))
+unfolding listOctets
+settled-packed (accept vs n) old new l e k = rw (e, k, length-listOctets vs) (cleared-octets vs old l)
+settled-packed (refuse n p) old new l e k = ap (λ m. replicate (m - 0) 0) e

@@ -1,0 +1,57 @@
+// Reading and writing under a lent table: the check, the root, the padding, and zeros after the answer. No call here asks
+// anything of its arguments, but for read_known, for tables whose check is proved.
+pub mod reading;
+
+use answer::Answer;
+
+ghost use mathlib.Core.Path.{_≡_};
+ghost use Prim.Native.Nat.{_/_};
+ghost use lib.ListN.{length};
+ghost use Rattle.values.specs.Values.{listOctets};
+ghost use Rattle.table.specs.Rules.{Obeys};
+ghost use Rattle.table.specs.Root.{root};
+ghost use Rattle.encoding.specs.Reading.{readOutcome, readValues};
+ghost use Rattle.encoding.specs.Calls.{readCall, valuesAfter, filled};
+
+// Reads all lent octets as one message into the value slice, under a table that is known to pass, whose root is at an offset.
+pub fn read_known(table: &[u8], at: usize, message: &[u8], values: &mut [i64]) -> Answer
+    requires { ⌜ Obeys (now table) × (at ≡ root (now table)) ⌝ }
+    ensures { λ r. ⌜ (r ≡ readCall (now (table .entry)) (now (message .entry)) (length (now (values .entry)))) × (now (values .exit) ≡ valuesAfter (length (now (values .entry))) (readOutcome (now (table .entry)) (now (message .entry)) (length (now (values .entry))))) ⌝ }
+{
+    let mut none = [0u8; 0];
+    let room = values.len();
+    let answer = reading::read_passed(table, at, message, values, &mut none, room);
+    let kept = reading::kept_count(answer);
+    values::clear_values(values, kept);
+    answer
+}
+
+// Reads all lent octets as one message under a lent table, into the value slice.
+pub fn read(table: &[u8], message: &[u8], values: &mut [i64]) -> Answer
+    ensures { λ r. ⌜ (r ≡ readCall (now (table .entry)) (now (message .entry)) (length (now (values .entry)))) × (now (values .exit) ≡ valuesAfter (length (now (values .entry))) (readOutcome (now (table .entry)) (now (message .entry)) (length (now (values .entry))))) ⌝ }
+{
+    let verdict = table::check(table);
+    let Answer::Accepted(_) = verdict else {
+        values::clear_values(values, 0);
+        return verdict;
+    };
+    read_known(table, table::root(table), message, values)
+}
+
+// The same with the values as octets, eight for each.
+pub fn read_packed(table: &[u8], message: &[u8], packed: &mut [u8]) -> Answer
+    ensures { λ r. ⌜ (r ≡ readCall (now (table .entry)) (now (message .entry)) (length (now (packed .entry)) / 8)) × (now (packed .exit) ≡ filled 0 (length (now (packed .entry))) (listOctets (readValues (readOutcome (now (table .entry)) (now (message .entry)) (length (now (packed .entry)) / 8))))) ⌝ }
+{
+    let verdict = table::check(table);
+    let Answer::Accepted(_) = verdict else {
+        values::clear_octets(packed, 0);
+        return verdict;
+    };
+    let root = table::root(table);
+    let mut none = [0i64; 0];
+    let room = packed.len() / 8;
+    let answer = reading::read_passed(table, root, message, &mut none, packed, room);
+    let kept = reading::kept_count(answer);
+    values::clear_octets(packed, kept * 8);
+    answer
+}

@@ -1,0 +1,87 @@
+// Reading all lent octets as one message.
+use answer::Answer;
+use answer::Refusal;
+use bits::BitPlace;
+use bits::Fetched;
+use bits::OctetSize;
+use reader::Cursor;
+use reader::Step;
+
+ghost use mathlib.Core.Path.{_≡_};
+ghost use Prim.Native.Nat.{_+_, _*_, _≤_, _<_};
+ghost use lib.ListN.{length, set};
+ghost use Rattle.values.specs.Values.{setValue};
+ghost use Rattle.table.specs.Rules.{Obeys};
+ghost use Rattle.table.specs.Root.{root};
+ghost use Rattle.encoding.specs.Rows.{asks};
+ghost use Rattle.encoding.specs.Reading.{decode, readAnswer};
+ghost use Rattle.codec.specs.Kept.{KeptBy, closed, stepAnswer, keptCount, messageOutcome};
+
+// The close of a message whose root ends at a cursor: its last octet ends the message, and zero bits fill it.
+fn close(message: &[u8], end: Cursor) -> Answer
+    requires { ⌜ (length (now message) ≤ 65535) × (end .place .0 ≤ 8 * length (now message)) ⌝ }
+    ensures { λ r. ⌜ r ≡ closed (now (message .entry)) end ⌝ }
+{
+    let place = end.place;
+    let after = place.0;
+    let size = OctetSize::holding(place);
+    if message.len() != size.0 {
+        return Answer::refused(Refusal::NOT_PADDING, after);
+    }
+    let all = BitPlace::after(OctetSize(message.len()));
+    let padding = bits::fetch(message, place, (all.0 - after) as u32);
+    let Fetched::Bits(number, _) = padding else {
+        return Answer::refused(Refusal::NOT_PADDING, after);
+    };
+    if number != 0 {
+        return Answer::refused(Refusal::NOT_PADDING, after);
+    }
+    Answer::accepted(end.count, place, OctetSize(0))
+}
+
+// A step of the root that was refused, as an answer.
+fn refused(step: Step) -> Answer
+    ensures { λ r. ⌜ r ≡ stepAnswer step ⌝ }
+{
+    match step {
+        Step::Past(_) => Answer::accepted(0, BitPlace(0), OctetSize(0)),
+        Step::Refused(refusal) => Answer::Refused(refusal),
+    }
+}
+
+// A message that isn't empty, under a passed table whose root is at an offset: the root, then the padding.
+pub fn read_message(table: &[u8], at: usize, message: &[u8], values: &mut [i64], packed: &mut [u8], room: usize) -> Answer
+    requires { ⌜ Obeys (now table) × (at ≡ root (now table)) × (0 < length (now message)) × (length (now message) ≤ 65535) ⌝ }
+    ensures { λ r. ⌜ (r ≡ readAnswer (decode (asks (now (table .entry))) (now (message .entry)) room)) × KeptBy set (decode (asks (now (table .entry))) (now (message .entry)) room) (now (values .entry)) (now (values .exit)) × KeptBy setValue (decode (asks (now (table .entry))) (now (message .entry)) room) (now (packed .entry)) (now (packed .exit)) ⌝ }
+{
+    let start = Cursor { place: BitPlace(0), count: 0 };
+    let step = reader::read_row(table, at, message, values, packed, room, start);
+    let Step::Past(end) = step else {
+        return refused(step);
+    };
+    close(message, end)
+}
+
+// Any octets under a passed table whose root is at an offset: 13, then 2 where there are none, then the message.
+pub fn read_passed(table: &[u8], at: usize, message: &[u8], values: &mut [i64], packed: &mut [u8], room: usize) -> Answer
+    requires { ⌜ Obeys (now table) × (at ≡ root (now table)) ⌝ }
+    ensures { λ r. ⌜ (r ≡ readAnswer (messageOutcome (now (table .entry)) (now (message .entry)) room)) × KeptBy set (messageOutcome (now (table .entry)) (now (message .entry)) room) (now (values .entry)) (now (values .exit)) × KeptBy setValue (messageOutcome (now (table .entry)) (now (message .entry)) room) (now (packed .entry)) (now (packed .exit)) ⌝ }
+{
+    if 65535 < message.len() {
+        return Answer::refused(Refusal::TOO_LONG, 0);
+    }
+    if message.len() == 0 {
+        return Answer::refused(Refusal::MESSAGE_ENDS, 0);
+    }
+    read_message(table, at, message, values, packed, room)
+}
+
+// How many values an answer says were kept.
+pub fn kept_count(answer: Answer) -> usize
+    ensures { λ r. ⌜ r ≡ keptCount answer ⌝ }
+{
+    match answer {
+        Answer::Accepted(counts) => counts.values,
+        Answer::Refused(_) => 0,
+    }
+}

@@ -1,0 +1,104 @@
+-- What each kind of row asks for, from the row at its offset; and the steps of its loops.
+-- Assumes nothing.
+use Prim.Native.Nat.{ℕ, zero, suc, _+_, _-_, _*_, _≤_, _<_}
+use mathlib.Core.Bool.{Bool, true, false, cond, false≢true}
+use mathlib.Core.Path.{_≡_, refl, sym, ap, ap₂, _∙_, subst, fun-ext}
+use mathlib.Core.List.{List, [], _∷_, _++_, map, append-assoc}
+use native.Mathlib.Omega.{arith}
+use lib.IntN.{ℤ, pos}
+use lib.ListN.{length, getD, drop}
+use Rattle.bits.specs.Bits.{bitsOf, width}
+use Rattle.item.specs.Code.{Code, number, variable, lengthWithin, index, natural, Got, got, bad, decodeItem}
+use Rattle.item.specs.Answers.{there}
+use Rattle.item.proofs.CodeLaws.{decodeItem-complete}
+use Rattle.table.specs.Offsets.{earlier}
+use Rattle.table.specs.Rows.{Row, Number, Variable, FixedRun, CountedRun, Record, Choice, Octets, Unknown, rowAt}
+use Rattle.table.specs.Rules.{All, Earlier, branches}
+use Rattle.table.proofs.Offsets.{earlier-is, byOffset-is}
+use Rattle.encoding.specs.Items.{Items, stop, ask, _then_, one, times}
+use Rattle.encoding.specs.Rows.{presence, fields, rowItems, items}
+use Rattle.encoding.specs.Walk.{Walk, walked, blocked, walk, after, next}
+use Rattle.encoding.proofs.Walks.{walk-then, walk-stop}
+
+-- the equation by which a reader goes from row to row
+pub items-row : (t : List ℕ) (o : ℕ) → items t o ≡ rowItems (earlier stop o (items t)) (rowAt t o)
+unfolding items
+items-row t o = byOffset-is stop (λ o g. rowItems g (rowAt t o)) o
+
+module _ (t : List ℕ) (o : ℕ) where
+  items-is : (r : Row) → rowAt t o ≡ r → items t o ≡ rowItems (earlier stop o (items t)) r
+  items-is r e = items-row t o ∙ ap (rowItems (earlier stop o (items t))) e
+
+  pub items-number : (low : ℤ) (span : ℕ) → rowAt t o ≡ Number low span → items t o ≡ one (number low span)
+  unfolding rowItems
+  items-number low span e = items-is (Number low span) e
+
+  pub items-variable : rowAt t o ≡ Variable → items t o ≡ one variable
+  unfolding rowItems
+  items-variable e = items-is Variable e
+
+  pub items-octets : (least most : ℕ) → rowAt t o ≡ Octets least most → items t o ≡ ask (lengthWithin least most) (λ v. times (natural v) (one (number (pos 0) 255)))
+  unfolding rowItems
+  items-octets least most e = items-is (Octets least most) e
+
+  pub items-fixed : (n r : ℕ) → rowAt t o ≡ FixedRun n r → r < o → items t o ≡ times n (items t r)
+  unfolding rowItems
+  items-fixed n r e h = items-is (FixedRun n r) e ∙ ap (times n) (earlier-is stop o (items t) r h)
+
+  pub items-counted : (most r : ℕ) → rowAt t o ≡ CountedRun most r → r < o → items t o ≡ ask (lengthWithin 0 most) (λ v. times (natural v) (items t r))
+  unfolding rowItems
+  items-counted most r e h = items-is (CountedRun most r) e ∙ ap (λ p. ask (lengthWithin 0 most) (λ v. times (natural v) p)) (earlier-is stop o (items t) r h)
+
+  fields-earlier : (rs : List ℕ) → All (Earlier t o) rs → (ps : List Bool) → fields (earlier stop o (items t)) rs ps ≡ fields (items t) rs ps
+  unfolding fields
+  fields-earlier [] h ps = refl
+  fields-earlier (r ∷ rs) h [] = refl
+  fields-earlier (r ∷ rs) h (true ∷ ps) = ap₂ _then_ (earlier-is stop o (items t) r (h .0 .1)) (fields-earlier rs (h .1) ps)
+  fields-earlier (r ∷ rs) h (false ∷ ps) = fields-earlier rs (h .1) ps
+
+  pub items-record : (rs fs : List ℕ) → rowAt t o ≡ Record rs fs → All (Earlier t o) rs → items t o ≡ presence fs (fields (items t) rs)
+  unfolding rowItems
+  items-record rs fs e h = items-is (Record rs fs) e ∙ ap (presence fs) (fun-ext (fields-earlier rs h))
+
+  pub items-choice : (rs : List ℕ) → rowAt t o ≡ Choice rs
+    → items t o ≡ ask (index (map there rs)) (λ v. earlier stop o (items t) (getD rs (natural v) 65535))
+  unfolding rowItems
+  items-choice rs e = items-is (Choice rs) e
+
+-- a branch that exists is an earlier row
+pub branch-back : {t : List ℕ} {o : ℕ} (rs : List ℕ) (i : ℕ) → All (Earlier t o) (branches rs) → getD (map there rs) i false ≡ true → Earlier t o (getD rs i 65535)
+unfolding branches
+branch-back [] i h e = absurd (false≢true e)
+branch-back {t} {o} (r ∷ rs) zero h e =
+    let k : All (Earlier t o) (r ∷ branches rs) = subst (λ (b : Bool). All (Earlier t o) (cond b (r ∷ branches rs) (branches rs))) e h in
+    k .0
+branch-back {t} {o} (r ∷ rs) (suc i) h e = branch-back rs i (go (there r) h) e
+  where
+    go : (b : Bool) → All (Earlier t o) (cond b (r ∷ branches rs) (branches rs)) → All (Earlier t o) (branches rs)
+    go true k = k .1
+    go false k = k
+
+-- the loop over a run
+pub walk-times : (n : ℕ) (p : Items) (b : List Bool) (room at : ℕ) → walk (times (suc n) p) b room at ≡ next room (walk p b room at) (walk (times n p) b)
+unfolding times
+walk-times n p b room at = walk-then p (times n p) b room at
+
+-- the reader of a record's fields
+module _ (g : ℕ → Items) (r : ℕ) (rs : List ℕ) (ps : List Bool) (b : List Bool) (room at : ℕ) where
+  pub walk-present : walk (fields g (r ∷ rs) (true ∷ ps)) b room at ≡ next room (walk (g r) b room at) (walk (fields g rs ps) b)
+  unfolding fields
+  walk-present = walk-then (g r) (fields g rs ps) b room at
+
+  pub walk-absent : walk (fields g (r ∷ rs) (false ∷ ps)) b room at ≡ walk (fields g rs ps) b room at
+  unfolding fields
+  walk-absent = refl
+
+-- a presence bit
+pub dec-bit : (x : Bool) (r : List Bool) → decodeItem (number (pos 0) 1) (x ∷ r) ≡ got (pos (cond x 1 0)) r
+unfolding width bitsOf
+dec-bit true r = decodeItem-complete (number (pos 0) 1) (pos 1) r refl
+dec-bit false r = decodeItem-complete (number (pos 0) 1) (pos 0) r refl
+
+pub after-after : (us vs : List ℤ) (x : Walk) → after us (after vs x) ≡ after (us ++ vs) x
+after-after us vs (walked ws at) = rw append-assoc
+after-after us vs (blocked n at) = refl

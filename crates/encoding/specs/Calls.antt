@@ -1,0 +1,29 @@
+-- What the calls give: the answer, and what the lent slice then holds, to its end (document 01: after each call the output is
+-- the answer followed by zeros; after a refusal zeros only). The contracts of the calls cite these names.
+use Prim.Native.Nat.{ℕ, _-_}
+use mathlib.Core.List.{List, _++_}
+use lib.IntN.{ℤ, pos}
+use lib.ListN.{length, replicate}
+use Rattle.answer.specs.declared.Answer.{Answer}
+use Rattle.encoding.specs.Reading.{ReadOutcome, readOutcome, readAnswer, readValues}
+use Rattle.encoding.specs.Writing.{WriteOutcome, writeOutcome, writeAnswer, writeOctets}
+
+-- a list at the front of a slice of n, and zeros after it
+abbrev pub filled : {A : Type 0} → A → ℕ → List A → List A
+filled z n xs = xs ++ replicate (n - length xs) z
+
+-- the value slice after reading
+abbrev pub valuesAfter : ℕ → ReadOutcome → List ℤ
+valuesAfter room outcome = filled (pos 0) room (readValues outcome)
+
+-- the output after writing
+abbrev pub outputAfter : ℕ → WriteOutcome → List ℕ
+outputAfter cap outcome = filled 0 cap (writeOctets outcome)
+
+-- the call `read` on a table, a message and a value slice of length room
+abbrev pub readCall : List ℕ → List ℕ → ℕ → Answer
+readCall t s room = readAnswer (readOutcome t s room)
+
+-- the call `write` on a table, a list and an output of cap octets
+abbrev pub writeCall : List ℕ → List ℤ → ℕ → Answer
+writeCall t vs cap = writeAnswer (writeOutcome t vs cap)

@@ -1,0 +1,49 @@
+-- Demand 3, sentence by sentence, over every table, message, list and slice length. The proof is proofs/Demand3.antt.
+-- It speaks of document 01's rules (Obeys, in table's specs/Rules.antt), of which lists a table allows (Allows, specs/Items.antt
+-- and Rows.antt), of their encoding (specs/Encoding.antt), and of what the contracts of check, read and write name (checked and
+-- verdict in table's specs/Verdict.antt; readCall, writeCall, valuesAfter and outputAfter in specs/Calls.antt).
+use Prim.Native.Nat.{ℕ, _≤_, _<_}
+use mathlib.Core.Path.{_≡_}
+use mathlib.Core.Logic.{_↔_}
+use mathlib.Core.List.{List, _++_}
+use lib.IntN.{ℤ, pos}
+use lib.ListN.{length, getD}
+use Rattle.answer.specs.Numbers.{accepted}
+use Rattle.answer.specs.declared.Counts.{Counts}
+use Rattle.answer.specs.declared.Answer.the-variants.{Accepted}
+use Rattle.table.specs.Rules.{Obeys}
+use Rattle.table.specs.Verdict.{verdict, checked}
+use Rattle.encoding.specs.Items.{Items, Allows, encodingBits}
+use Rattle.encoding.specs.Rows.{asks}
+use Rattle.encoding.specs.Encoding.{encoding}
+use Rattle.encoding.specs.Reading.{readOutcome}
+use Rattle.encoding.specs.Writing.{writeOutcome}
+use Rattle.encoding.specs.Calls.{filled, valuesAfter, outputAfter, readCall, writeCall}
+
+-- a message: octets, at most 65,535 of them
+pub record Message (s : List ℕ) : Type 0 where
+  pub octets : (i : ℕ) → getD s i 0 < 256
+  pub most : length s ≤ 65535
+
+-- a list that items allow, no longer than the slice, whose encoding is those octets
+pub record Stands (p : Items) (s : List ℕ) (room : ℕ) (vs : List ℤ) : Type 0 where
+  pub allowed : Allows p vs
+  pub short : length vs ≤ room
+  pub encodes : encoding p vs ≡ s
+
+pub record Demand3 (t : List ℕ) : Type 1 where
+  -- the check passes a table exactly when it obeys the rules
+  pub checks : (checked (verdict t) ≡ accepted 0 0 0) ↔ Obeys t
+  -- under a passed table, reading accepts exactly when some such list stands for the octets
+  pub accepts : Obeys t → (s : List ℕ) → Message s → (room : ℕ)
+    → ((counts : Counts) × (readCall t s room ≡ Accepted counts)) ↔ ((vs : List ℤ) × Stands (asks t) s room vs)
+  -- there is only one such list
+  pub one : (s : List ℕ) (room : ℕ) (vs ws : List ℤ) → Stands (asks t) s room vs → Stands (asks t) s room ws → vs ≡ ws
+  -- it comes back, followed by zeros, with its length and its bits as counts
+  pub comes : Obeys t → (s : List ℕ) → Message s → (room : ℕ) (vs : List ℤ) → Stands (asks t) s room vs
+    → (readCall t s room ≡ accepted (length vs) (length (encodingBits (asks t) vs)) 0) × (valuesAfter room (readOutcome t s room) ≡ filled (pos 0) room vs)
+  -- written into any slice long enough it gives the same octets, then zeros, and the message's length
+  pub returns : Obeys t → (s : List ℕ) → Message s → (room : ℕ) (vs : List ℤ) → Stands (asks t) s room vs → (cap : ℕ) → length s ≤ cap
+    → (writeCall t vs cap ≡ accepted 0 0 (length s)) × (outputAfter cap (writeOutcome t vs cap) ≡ filled 0 cap s)
+  -- two messages never give one list, whatever slices they were read into
+  pub apart : (s s′ : List ℕ) (room room′ : ℕ) (vs : List ℤ) → Stands (asks t) s room vs → Stands (asks t) s′ room′ vs → s ≡ s′

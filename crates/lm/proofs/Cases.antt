@@ -1,0 +1,21 @@
+-- Document 01's twelve marked cases come out of the definitions, by computation.
+-- Assumes nothing.
+use mathlib.Core.Path.{refl}
+use Rattle.octets.specs.Numbers.{u16, u32, signed, u16s}
+use Rattle.bits.specs.Bits.{numberOf, bitsOf, width, unpack}
+use Rattle.item.specs.Answers.{there}
+use Rattle.table.specs.Offsets.{earlier, upTo, byOffset}
+use Rattle.table.specs.Rows.{rowOf, rowAt, rowLength}
+use Rattle.table.specs.Rules.{knownKind, within, flagsInBounds, numbersInBounds, branches, references, someBranch, hasBranch}
+use Rattle.table.specs.Verdict.{rowDepth, rowTest, obeys, verdict}
+use Rattle.table.specs.Root.{rootFrom, root}
+use Rattle.encoding.specs.Items.{one, times}
+use Rattle.encoding.specs.Rows.{presence, fields, rowItems, items, asks}
+use Rattle.encoding.specs.Reading.{readOutcome}
+use Rattle.builtin.specs.Tables.{lm}
+use Rattle.lm.specs.ByName.{lmVersion, lmSubtype, readLmOutcome}
+use Rattle.lm.specs.Cases.{cases, Given}
+
+pub given : Given
+unfolding cases lm lmVersion lmSubtype readLmOutcome readOutcome asks items rowItems fields presence times one rootFrom root verdict obeys rowTest rowDepth hasBranch someBranch references branches numbersInBounds flagsInBounds within knownKind rowLength rowAt rowOf earlier upTo byOffset there unpack width bitsOf numberOf u16 u32 signed u16s
+given = record { outcomes = refl }

@@ -1,0 +1,3 @@
+pub mod Cases
+pub mod FirstOctet
+pub mod Demand3Lm

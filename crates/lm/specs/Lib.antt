@@ -1,0 +1,3 @@
+pub mod ByName
+pub mod Demand3Lm
+pub mod Cases

@@ -1,0 +1,21 @@
+-- The tests before an LM's items, by themselves: what passes them is accepted and counts nothing.
+use Prim.Native.Nat.{ℕ}
+use mathlib.Core.Bool.{Bool, true, false}
+use mathlib.Core.List.{List}
+use lib.Dec.{leb, eqb}
+use lib.ListN.{length}
+use Rattle.answer.specs.Numbers.{messageEnds, wrongVersion, wrongSubtype, tooLong, accepted, refused}
+use Rattle.answer.specs.declared.Answer.{Answer}
+use Rattle.lm.specs.ByName.{lmVersion, lmSubtype}
+
+abbrev pub answerIf : Bool → ℕ → ℕ → Answer → Answer
+answerIf true number place x = x
+answerIf false number place x = refused number place
+
+unfoldable pub lmTested : List ℕ → Answer
+lmTested s =
+    answerIf (leb (length s) 65535) tooLong 0
+    (answerIf (leb 1 (length s)) messageEnds 0
+    (answerIf (eqb (lmVersion s) 3) wrongVersion 5
+    (answerIf (leb (lmSubtype s) 2) wrongSubtype 0
+    (accepted 0 0 0))))

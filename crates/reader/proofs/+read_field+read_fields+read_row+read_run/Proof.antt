@@ -1,0 +1,381 @@
+-- The readers of a row, of a run, of a record's fields and of one field, which call each other on earlier rows, meet their
+-- contracts. The measure is four times the row's offset, and a little more by the function. The loops' invariant: reading the
+-- whole comes to reading what is left.
+-- Assumes nothing.
+use Prim.Native.Nat.{ℕ, suc, _+_, _-_, _*_, _≤_, _<_}
+use mathlib.Core.Bool.{false}
+use mathlib.Core.Path.{_≡_, refl, ap, _∙_}
+use native.Mathlib.Omega.{arith}
+use denote.Ref.{now}
+use lib.ListN.{length, getD}
+use Rattle.octets.specs.Numbers.{u16}
+use Rattle.bits.specs.Bits.{bitsOf}
+use Rattle.table.proofs.Obeyed.{earlier-starts, record-row}
+use Rattle.encoding.specs.Items.{times}
+use Rattle.encoding.specs.Rows.{items}
+use Rattle.reader.specs.Reads.{stateAt, Continues}
+use Rattle.reader.specs.Begins.{markedFields}
+use Rattle.reader.proofs.Flow.{continues-trans, continues-same, continues-end, continues-part, refused-part, reads-nothing}
+use Rattle.reader.proofs.Beginnings.{times-none, times-more}
+use Rattle.reader.proofs.Records.{fieldsFrom, fields-start, fields-end, fields-next}
+use borrow.Author.Needs.{needs}
+use borrow.Fn.Kinds.{In}
+use borrow.Fn.PlainCycle.{Measures, is, falls, and}
+use Rattle.reader.proofs.read_field.Reads as read-field
+use Rattle.reader.proofs.read_field.Kinds as read-field-kinds
+use Rattle.reader.proofs.+read_field+read_fields+read_row+read_run.Lts-read_field as read-field-lts
+use Rattle.reader.proofs.read_fields.Reads as read-fields
+use Rattle.reader.proofs.read_fields.Kinds as read-fields-kinds
+use Rattle.reader.proofs.+read_field+read_fields+read_row+read_run.Lts-read_fields as read-fields-lts
+use Rattle.reader.proofs.read_row.Reads as read-row
+use Rattle.reader.proofs.read_row.Kinds as read-row-kinds
+use Rattle.reader.proofs.+read_field+read_fields+read_row+read_run.Lts-read_row as read-row-lts
+use Rattle.reader.proofs.read_run.Reads as read-run
+use Rattle.reader.proofs.read_run.Kinds as read-run-kinds
+use Rattle.reader.proofs.+read_field+read_fields+read_row+read_run.Lts-read_run as read-run-lts
+use Rattle.octets.proofs.u16_at.Reads as u16-at-reads
+use Rattle.reader.proofs.begin.begin.Reads as begin-reads
+use Rattle.reader.proofs.begin.is_marked.Reads as is-marked-reads
+use Rattle.reader.proofs.+read_field+read_fields+read_row+read_run.{statement}
+use Rattle.reader.proofs.+read_field+read_fields+read_row+read_run.Tie.{close}
+
+abbrev μ-read-field : Measures 4 read-field-kinds.ps ℕ
+μ-read-field κs a = a .1 .0 * 4 + 1
+
+abbrev μ-read-fields : Measures 4 read-fields-kinds.ps ℕ
+μ-read-fields κs a = a .1 .0 * 4 + 2
+
+abbrev μ-read-row : Measures 4 read-row-kinds.ps ℕ
+μ-read-row κs a = a .1 .0 * 4 + 3
+
+abbrev μ-read-run : Measures 4 read-run-kinds.ps ℕ
+μ-read-run κs a = a .1 .0 * 4 + 1
+
+abbrev read-field-at : ℕ → In 4 read-field-kinds.ps
+read-field-at t =
+    and 4 read-field-kinds.ps (is 4 read-field-kinds.ps μ-read-field t) read-field.Pre
+
+abbrev read-field-below : ℕ → In 4 read-field-kinds.ps
+read-field-below t =
+    and 4 read-field-kinds.ps (falls 4 read-field-kinds.ps _<_ μ-read-field t) read-field.Pre
+
+abbrev read-fields-at : ℕ → In 4 read-fields-kinds.ps
+read-fields-at t =
+    and 4 read-fields-kinds.ps (is 4 read-fields-kinds.ps μ-read-fields t) read-fields.Pre
+
+abbrev read-fields-below : ℕ → In 4 read-fields-kinds.ps
+read-fields-below t =
+    and 4 read-fields-kinds.ps (falls 4 read-fields-kinds.ps _<_ μ-read-fields t) read-fields.Pre
+
+abbrev read-row-at : ℕ → In 4 read-row-kinds.ps
+read-row-at t = and 4 read-row-kinds.ps (is 4 read-row-kinds.ps μ-read-row t) read-row.Pre
+
+abbrev read-row-below : ℕ → In 4 read-row-kinds.ps
+read-row-below t =
+    and 4 read-row-kinds.ps (falls 4 read-row-kinds.ps _<_ μ-read-row t) read-row.Pre
+
+abbrev read-run-at : ℕ → In 4 read-run-kinds.ps
+read-run-at t = and 4 read-run-kinds.ps (is 4 read-run-kinds.ps μ-read-run t) read-run.Pre
+
+abbrev read-run-below : ℕ → In 4 read-run-kinds.ps
+read-run-below t =
+    and 4 read-run-kinds.ps (falls 4 read-run-kinds.ps _<_ μ-read-run t) read-run.Pre
+
+abbrev read-field-known : ℕ → read-field-lts.Claims
+read-field-known t = (read-row-below t, read-row.Post)
+
+abbrev read-fields-known : ℕ → read-fields-lts.Claims
+read-fields-known t = (u16-at-reads.Asked, u16-at-reads.Learnt, is-marked-reads.Asked, is-marked-reads.Learnt, read-field-below t, read-field.Post)
+
+abbrev read-row-known : ℕ → read-row-lts.Claims
+read-row-known t = (begin-reads.Asked, begin-reads.Learnt, read-run-below t, read-run.Post, read-row-below t, read-row.Post, read-fields-below t, read-fields.Post)
+
+abbrev read-run-known : ℕ → read-run-lts.Claims
+read-run-known t = (read-row-below t, read-row.Post)
+
+read-field-read-row-requires : (t : ℕ) → read-field-lts.Need-read-row-requires (read-field-known t) (read-field-at t) read-field.Post
+read-field-read-row-requires t c κs = 
+    let s = c .before .before .before .before .before .before in
+    (omega (arith, s .pre .0, s .pre .1 .2 .1), (s .pre .1 .0, earlier-starts (s .pre .1 .1) (s .pre .1 .2), s .pre .1 .3))
+
+read-field-returns :
+    (t : ℕ) →
+    read-field-lts.Need-returns
+    (read-field-known t) (read-field-at t) read-field.Post
+read-field-returns t c = rw (c .before .before .before .before .before .before .if1 .taken) (c .before .before .before .read-row .ensures)
+
+read-field-returns-2 :
+    (t : ℕ) →
+    read-field-lts.Need-returns-2
+    (read-field-known t) (read-field-at t) read-field.Post
+read-field-returns-2 t c = rw (c .if1 .left) reads-nothing
+
+abbrev read-fields-Inv-loop : read-fields-lts.InvT-loop
+read-fields-Inv-loop table at mask message values₀ packed₀ room fields field₀ here₀ values packed field here =
+    (field ≤ fields) × (length values ≡ length values₀) × (length packed ≡ length packed₀)
+    × Continues message room (markedFields table at mask) (stateAt here₀ values₀ packed₀) (fieldsFrom table at mask field) (stateAt here values packed)
+
+abbrev read-fields-μ-loop : read-fields-lts.MeasureT-loop
+read-fields-μ-loop table at mask message values₀ packed₀ room fields field₀ here₀ values packed field here = fields - field
+
+read-fields-u16-at-requires : (t : ℕ) → read-fields-lts.Need-u16-at-requires (read-fields-known t) (read-fields-at t) read-fields.Post read-fields-Inv-loop read-fields-μ-loop
+read-fields-u16-at-requires t c κs = 
+    let s = c .before .before .before in
+    let row = record-row (s .pre .1 .0) (s .pre .1 .1) (s .pre .1 .2) in omega (arith, row .inside)
+
+read-fields-loop-holds : (t : ℕ) → read-fields-lts.Need-loop-holds (read-fields-known t) (read-fields-at t) read-fields.Post read-fields-Inv-loop read-fields-μ-loop
+read-fields-loop-holds t c = 
+    let s = c .before .before .before .before in
+    let row = record-row (s .pre .1 .0) (s .pre .1 .1) (s .pre .1 .2) in
+    (omega arith, refl, refl, continues-same (fields-start (now (s .args .table)) (s .args .at) (s .args .mask)))
+
+read-fields-add-u16-at-2 : (t : ℕ) → read-fields-lts.Need-add-u16-at-2 (read-fields-known t) (read-fields-at t) read-fields.Post read-fields-Inv-loop read-fields-μ-loop
+read-fields-add-u16-at-2 t c = 
+    let s = c .before .before .before .before .before .before in
+    let row = record-row (s .pre .1 .0) (s .pre .1 .1) (s .pre .1 .2) in let e = c .before .before .u16-at .ensures .0 in omega (arith, row .inside, row .most, s .pre .1 .0 .most)
+
+read-fields-mul-u16-at : (t : ℕ) → read-fields-lts.Need-mul-u16-at (read-fields-known t) (read-fields-at t) read-fields.Post read-fields-Inv-loop read-fields-μ-loop
+read-fields-mul-u16-at t c = 
+    let s = c .before .before .before .before .before .before in
+    let row = record-row (s .pre .1 .0) (s .pre .1 .1) (s .pre .1 .2) in let e = c .before .before .u16-at .ensures .0 in omega (arith, row .inside, row .most, s .pre .1 .0 .most)
+
+read-fields-add-u16-at-3 : (t : ℕ) → read-fields-lts.Need-add-u16-at-3 (read-fields-known t) (read-fields-at t) read-fields.Post read-fields-Inv-loop read-fields-μ-loop
+read-fields-add-u16-at-3 t c = 
+    let s = c .before .before .before .before .before .before in
+    let row = record-row (s .pre .1 .0) (s .pre .1 .1) (s .pre .1 .2) in let e = c .before .before .u16-at .ensures .0 in omega (arith, row .inside, row .most, s .pre .1 .0 .most)
+
+read-fields-u16-at-requires-2 : (t : ℕ) → read-fields-lts.Need-u16-at-requires-2 (read-fields-known t) (read-fields-at t) read-fields.Post read-fields-Inv-loop read-fields-μ-loop
+read-fields-u16-at-requires-2 t c κs = 
+    let s = c .before .before .before .before .before .before in
+    let row = record-row (s .pre .1 .0) (s .pre .1 .1) (s .pre .1 .2) in let e = c .before .before .u16-at .ensures .0 in omega (arith, row .inside, row .most, s .pre .1 .0 .most)
+
+read-fields-is-marked-requires : (t : ℕ) → read-fields-lts.Need-is-marked-requires (read-fields-known t) (read-fields-at t) read-fields.Post read-fields-Inv-loop read-fields-μ-loop
+read-fields-is-marked-requires t c κs = 
+    let s = c .before .before .before .before .before .before .before in
+    let row = record-row (s .pre .1 .0) (s .pre .1 .1) (s .pre .1 .2) in
+    let e = c .before .before .before .u16-at .ensures .0 in
+    (omega arith, omega (arith, row .most), rw e (s .pre .1 .3))
+
+read-fields-read-field-requires : (t : ℕ) → read-fields-lts.Need-read-field-requires (read-fields-known t) (read-fields-at t) read-fields.Post read-fields-Inv-loop read-fields-μ-loop
+read-fields-read-field-requires t c κs = 
+    let s = c .before .before .before .before .before .before .before .before .before .before in
+    let row = record-row (s .pre .1 .0) (s .pre .1 .1) (s .pre .1 .2) in
+    let loop = c .before .before .before .before .before .loop in
+    let e = c .before .before .before .before .before .before .u16-at .ensures .0 in
+    (omega (arith, s .pre .0), (s .pre .1 .0, s .pre .1 .1, rw (c .before .before .before .u16-at2 .ensures .0) (row .field (loop .field) (omega arith)), s .pre .1 .4))
+
+read-fields-returns : (t : ℕ) → read-fields-lts.Need-returns (read-fields-known t) (read-fields-at t) read-fields.Post read-fields-Inv-loop read-fields-μ-loop
+read-fields-returns t c = 
+    let s = c .before .before .before .before .before .before .before .before .before .before .before .before .before .before .before .before in
+    let a = s .args in
+    let loop = c .before .before .before .before .before .before .before .before .before .before .before .loop in
+    let field = c .before .before .before .before .before .read-field in
+    let e = c .before .before .before .before .before .before .before .before .before .before .before .before .u16-at .ensures .0 in
+    let l : loop .field < u16 (now (a .table)) (a .at + 4) = omega (arith, e, c .before .before .before .before .before .before .before .before .before .before .loop-test .taken) in
+    let present = c .before .before .before .before .before .before .before .before .is-marked .ensures ∙ ap (λ (n : ℕ). getD (bitsOf n (a .mask)) (loop .field) false) e in
+    let next = fields-next (now (a .table)) (a .at) (a .mask) (loop .field) _ _ l (c .before .before .before .before .before .before .before .before .before .u16-at2 .ensures .0) present in
+    continues-trans (loop .inv .3) (continues-same next) .complete _ _ _ (refused-part _ _ (field .ensures) (c .enum-told .given .1))
+
+read-fields-loop-again : (t : ℕ) → read-fields-lts.Need-loop-again (read-fields-known t) (read-fields-at t) read-fields.Post read-fields-Inv-loop read-fields-μ-loop
+read-fields-loop-again t c = 
+    let s = c .before .before .before .before .before .before .before .before .before .before .before .before .before .before .before .before .before in
+    let a = s .args in
+    let loop = c .before .before .before .before .before .before .before .before .before .before .before .before .loop in
+    let field = c .before .before .before .before .before .before .read-field in
+    let e = c .before .before .before .before .before .before .before .before .before .before .before .before .before .u16-at .ensures .0 in
+    let l : loop .field < u16 (now (a .table)) (a .at + 4) = omega (arith, e, c .before .before .before .before .before .before .before .before .before .before .before .loop-test .taken) in
+    let present = c .before .before .before .before .before .before .before .before .before .is-marked .ensures ∙ ap (λ (n : ℕ). getD (bitsOf n (a .mask)) (loop .field) false) e in
+    let next = fields-next (now (a .table)) (a .at) (a .mask) (loop .field) _ _ l (c .before .before .before .before .before .before .before .before .before .before .u16-at2 .ensures .0) present in
+    (omega (arith, c .before .before .before .before .before .before .before .before .before .before .before .loop-test .taken), search needs, search needs,
+     continues-trans (loop .inv .3) (continues-trans (continues-same next) (continues-part _ _ (field .ensures) (c .before .step .given .1))))
+
+read-fields-returns-2 : (t : ℕ) → read-fields-lts.Need-returns-2 (read-fields-known t) (read-fields-at t) read-fields.Post read-fields-Inv-loop read-fields-μ-loop
+read-fields-returns-2 t c = 
+    let s = c .before .before .before .before .before .before in
+    let a = s .args in
+    let loop = c .before .loop in
+    let e : loop .field ≡ u16 (now (a .table)) (a .at + 4) = omega (arith, c .before .before .u16-at .ensures .0) in
+    continues-end (continues-trans (loop .inv .3) (continues-same (fields-end (now (a .table)) (a .at) (a .mask) (loop .field) e)))
+
+read-row-begin-requires : (t : ℕ) → read-row-lts.Need-begin-requires (read-row-known t) (read-row-at t) read-row.Post
+read-row-begin-requires t c κs = c .before .before .before .before .before .pre .1
+
+read-row-read-run-requires : (t : ℕ) → read-row-lts.Need-read-run-requires (read-row-known t) (read-row-at t) read-row.Post
+read-row-read-run-requires t c κs = 
+    let s = c .before .before .before .before .before .before .before .before .before .before .before .before .before .before in
+    let b = rw (c .before .before .before .begun2 .given .1) at (c .before .before .before .before .before .before .before .before .begin .ensures) in
+    (omega (arith, s .pre .0), (s .pre .1 .0, s .pre .1 .1, b .0, s .pre .1 .2))
+
+read-row-read-row-requires : (t : ℕ) → read-row-lts.Need-read-row-requires (read-row-known t) (read-row-at t) read-row.Post
+read-row-read-row-requires t c κs = 
+    let s = c .before .before .before .before .before .before .before .before .before .before .before .before .before .before in
+    let b = rw (c .before .before .before .begun3 .given .1) at (c .before .before .before .before .before .before .before .before .begin .ensures) in
+    (omega (arith, s .pre .0, b .0 .1), (s .pre .1 .0, earlier-starts (s .pre .1 .1) (b .0), s .pre .1 .2))
+
+read-row-read-fields-requires : (t : ℕ) → read-row-lts.Need-read-fields-requires (read-row-known t) (read-row-at t) read-row.Post
+read-row-read-fields-requires t c κs = 
+    let s = c .before .before .before .before .before .before .before .before .before .before .before .before .before .before in
+    let b = rw (c .before .before .before .begun4 .given .1) at (c .before .before .before .before .before .before .before .before .begin .ensures) in
+    (omega (arith, s .pre .0), (s .pre .1 .0, s .pre .1 .1, b .0, b .1, s .pre .1 .2))
+
+read-row-returns : (t : ℕ) → read-row-lts.Need-returns (read-row-known t) (read-row-at t) read-row.Post
+read-row-returns t c = 
+    let s = c .before .before .before .before .before .before .before .before .before .before .before .before in
+    let b = rw (c .before .begun .given .1) at (c .before .before .before .before .before .before .begin .ensures) in continues-end b
+
+read-row-returns-2 : (t : ℕ) → read-row-lts.Need-returns-2 (read-row-known t) (read-row-at t) read-row.Post
+read-row-returns-2 t c = 
+    let s = c .before .before .before .before .before .before .before .before .before .before .before .before .before .before .before .before .before .before in
+    let b = rw (c .before .before .before .before .before .before .before .begun2 .given .1) at (c .before .before .before .before .before .before .before .before .before .before .before .before .begin .ensures) in b .1 .complete _ _ _ (c .before .before .before .read-run .ensures)
+
+read-row-returns-3 : (t : ℕ) → read-row-lts.Need-returns-3 (read-row-known t) (read-row-at t) read-row.Post
+read-row-returns-3 t c = 
+    let s = c .before .before .before .before .before .before .before .before .before .before .before .before .before .before .before .before .before .before in
+    let b = rw (c .before .before .before .before .before .before .before .begun3 .given .1) at (c .before .before .before .before .before .before .before .before .before .before .before .before .begin .ensures) in b .1 .complete _ _ _ (c .before .before .before .read-row .ensures)
+
+read-row-returns-4 : (t : ℕ) → read-row-lts.Need-returns-4 (read-row-known t) (read-row-at t) read-row.Post
+read-row-returns-4 t c = 
+    let s = c .before .before .before .before .before .before .before .before .before .before .before .before .before .before .before .before .before .before in
+    let b = rw (c .before .before .before .before .before .before .before .begun4 .given .1) at (c .before .before .before .before .before .before .before .before .before .before .before .before .begin .ensures) in b .2 .complete _ _ _ (c .before .before .before .read-fields .ensures)
+
+read-row-returns-5 : (t : ℕ) → read-row-lts.Need-returns-5 (read-row-known t) (read-row-at t) read-row.Post
+read-row-returns-5 t c = 
+    let s = c .before .before .before .before .before .before .before .before .before .before .before .before in
+    let b = rw (c .before .begun5 .given .1) at (c .before .before .before .before .before .before .begin .ensures) in b
+
+abbrev read-run-Inv-loop : read-run-lts.InvT-loop
+read-run-Inv-loop table at row count message values₀ packed₀ room done₀ here₀ values packed done here =
+    (done ≤ count) × (length values ≡ length values₀) × (length packed ≡ length packed₀)
+    × Continues message room (times count (items table row)) (stateAt here₀ values₀ packed₀) (times (count - done) (items table row)) (stateAt here values packed)
+
+abbrev read-run-μ-loop : read-run-lts.MeasureT-loop
+read-run-μ-loop table at row count message values₀ packed₀ room done₀ here₀ values packed done here = count - done
+
+read-run-loop-holds :
+    (t : ℕ) →
+    read-run-lts.Need-loop-holds
+    (read-run-known t) (read-run-at t) read-run.Post
+    read-run-Inv-loop
+    read-run-μ-loop
+read-run-loop-holds t c = 
+    let a = c .before .before .before .args in
+    (omega arith, refl, refl, continues-same (ap (λ (n : ℕ). times n (items (now (a .table)) (a .row))) (omega arith)))
+
+read-run-read-row-requires : (t : ℕ) → read-run-lts.Need-read-row-requires (read-run-known t) (read-run-at t) read-run.Post read-run-Inv-loop read-run-μ-loop
+read-run-read-row-requires t c κs = 
+    let s = c .before .before .before .before .before .before .before in
+    (omega (arith, s .pre .0, s .pre .1 .2 .1), (s .pre .1 .0, earlier-starts (s .pre .1 .1) (s .pre .1 .2), s .pre .1 .3))
+
+read-run-returns :
+    (t : ℕ) →
+    read-run-lts.Need-returns
+    (read-run-known t) (read-run-at t) read-run.Post
+    read-run-Inv-loop
+    read-run-μ-loop
+read-run-returns t c = 
+    let a = c .before .before .before .before .before .before .before .before .before .before .before .before .before .args in
+    let loop = c .before .before .before .before .before .before .before .before .before .loop in
+    let row = c .before .before .before .before .before .read-row in
+    let more : a .count - loop .done ≡ suc (a .count - (loop .done + 1)) = omega (arith, c .before .before .before .before .before .before .before .before .loop-test .taken) in
+    let next = times-more (a .count - loop .done) (a .count - (loop .done + 1)) (items (now (a .table)) (a .row)) more in
+    continues-trans (loop .inv .3) (continues-same next) .complete _ _ _ (refused-part _ _ (row .ensures) (c .enum-told .given .1))
+
+read-run-loop-again :
+    (t : ℕ) →
+    read-run-lts.Need-loop-again
+    (read-run-known t) (read-run-at t) read-run.Post
+    read-run-Inv-loop
+    read-run-μ-loop
+read-run-loop-again t c = 
+    let a = c .before .before .before .before .before .before .before .before .before .before .before .before .before .before .args in
+    let loop = c .before .before .before .before .before .before .before .before .before .before .loop in
+    let row = c .before .before .before .before .before .before .read-row in
+    let more : a .count - loop .done ≡ suc (a .count - (loop .done + 1)) = omega (arith, c .before .before .before .before .before .before .before .before .before .loop-test .taken) in
+    let next = times-more (a .count - loop .done) (a .count - (loop .done + 1)) (items (now (a .table)) (a .row)) more in
+    (omega (arith, c .before .before .before .before .before .before .before .before .before .loop-test .taken), search needs, search needs,
+     continues-trans (loop .inv .3) (continues-trans (continues-same next) (continues-part _ _ (row .ensures) (c .before .step .given .1))))
+
+read-run-returns-2 :
+    (t : ℕ) →
+    read-run-lts.Need-returns-2
+    (read-run-known t) (read-run-at t) read-run.Post
+    read-run-Inv-loop
+    read-run-μ-loop
+read-run-returns-2 t c = 
+    let a = c .before .before .before .before .before .args in
+    let loop = c .before .loop in
+    continues-end (continues-trans (loop .inv .3) (continues-same (times-none (a .count - loop .done) (items (now (a .table)) (a .row)) (omega arith))))
+
+pub +read-field+read-fields+read-row+read-run-spec : {M : Type 1} → statement M
++read-field+read-fields+read-row+read-run-spec =
+    close μ-read-field μ-read-fields μ-read-row μ-read-run (λ t. read-field-lts.spec (read-field-known t) (read-field-at t) read-field.Post
+    (read-field-read-row-requires t)
+    (λ c. search needs)
+    (λ c. search needs)
+    (read-field-returns t)
+    (read-field-returns-2 t))
+    (λ t. read-fields-lts.spec (read-fields-known t) (read-fields-at t) read-fields.Post
+    read-fields-Inv-loop
+    read-fields-μ-loop
+    (λ c. search needs)
+    (read-fields-u16-at-requires t)
+    (read-fields-loop-holds t)
+    (read-fields-add-u16-at-2 t)
+    (read-fields-mul-u16-at t)
+    (read-fields-add-u16-at-3 t)
+    (read-fields-u16-at-requires-2 t)
+    (read-fields-is-marked-requires t)
+    (read-fields-read-field-requires t)
+    (λ c. search needs)
+    (λ c. search needs)
+    (λ c. search needs)
+    (λ c. search needs)
+    (read-fields-returns t)
+    (λ c. search needs)
+    (λ c. search needs)
+    (read-fields-loop-again t)
+    (λ c. search needs)
+    (λ c. search needs)
+    (read-fields-returns-2 t))
+    (λ t. read-row-lts.spec (read-row-known t) (read-row-at t) read-row.Post
+    (read-row-begin-requires t)
+    (λ c. search needs)
+    (λ c. search needs)
+    (read-row-read-run-requires t)
+    (λ c. search needs)
+    (read-row-read-row-requires t)
+    (λ c. search needs)
+    (read-row-read-fields-requires t)
+    (λ c. search needs)
+    (λ c. search needs)
+    (λ c. search needs)
+    (read-row-returns t)
+    (λ c. search needs)
+    (λ c. search needs)
+    (read-row-returns-2 t)
+    (λ c. search needs)
+    (λ c. search needs)
+    (read-row-returns-3 t)
+    (λ c. search needs)
+    (λ c. search needs)
+    (read-row-returns-4 t)
+    (λ c. search needs)
+    (λ c. search needs)
+    (read-row-returns-5 t))
+    λ t. read-run-lts.spec
+    (read-run-known t) (read-run-at t) read-run.Post
+    read-run-Inv-loop
+    read-run-μ-loop
+    (read-run-loop-holds t)
+    (read-run-read-row-requires t)
+    (λ c. search needs)
+    (λ c. search needs)
+    (λ c. search needs)
+    (λ c. search needs)
+    (read-run-returns t)
+    (λ c. search needs)
+    (λ c. search needs)
+    (read-run-loop-again t)
+    (λ c. search needs)
+    (λ c. search needs)
+    (read-run-returns-2 t)

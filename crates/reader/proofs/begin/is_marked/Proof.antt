@@ -1,0 +1,33 @@
+-- `reader::begin::is_marked` meets its contract. The field's bit of the mask, counted from the top.
+-- Assumes nothing.
+use Prim.Native.Nat.{_-_, suc}
+use mathlib.Core.Path.{_≡_, ap, _∙_, sym}
+use native.Mathlib.Omega.{arith}
+use Rattle.bits.proofs.Bits.{odd, bit-of}
+use borrow.Author.Needs.{needs}
+use Rattle.reader.proofs.begin.is_marked.Statement.{statement}
+use Rattle.reader.proofs.begin.is_marked.Tie as tie
+use Rattle.reader.proofs.begin.is_marked.Reads as reads
+use Rattle.reader.proofs.begin.is_marked.Lts as lts
+
+sub-below : tie.Need-sub-below
+sub-below c = search needs
+
+sub-below-2 : tie.Need-sub-below-2
+sub-below-2 c = search needs
+
+cast-below : tie.Need-cast-below
+cast-below c = search needs
+
+shr-result : tie.Need-shr-result
+shr-result c = search needs
+
+returns : tie.Need-returns
+unfolding odd
+returns c = 
+    let a = c .args in
+    let e : a .fields - 1 - a .field ≡ a .fields - suc (a .field) = omega arith in
+    ap (odd (a .mask)) e ∙ sym (bit-of (a .fields) (a .mask) (a .field) (c .pre .2) (c .pre .0))
+
+pub is-marked-spec : {M : Type 1} → statement M
+is-marked-spec = tie.close (tie.spec sub-below sub-below-2 cast-below shr-result returns)

@@ -1,0 +1,104 @@
+// Reads the items that a row of a passed table asks for from a message, and keeps their values in the slices that are lent.
+// A row's own items come first (begin.rt); then the rows that it refers to, each earlier in the table.
+mod begin;
+
+use answer::Refusal;
+use bits::BitPlace;
+
+ghost use mathlib.Core.Path.{_≡_};
+ghost use Prim.Native.Nat.{_+_, _*_, _<_, _≤_, _^_};
+ghost use lib.ListN.{length};
+ghost use Rattle.octets.specs.Numbers.{u16};
+ghost use Rattle.table.specs.Rules.{Obeys, Starts, Earlier};
+ghost use Rattle.encoding.specs.Items.{times};
+ghost use Rattle.encoding.specs.Rows.{items};
+ghost use Rattle.reader.specs.Reads.{Reads, stateAt};
+ghost use Rattle.reader.specs.Begins.{markedFields, fieldIf};
+
+// Where a reader stands: the next bit of the message, and how many values were read.
+pub struct Cursor {
+    pub place: BitPlace,
+    pub count: usize,
+}
+
+// What reading a row gives: the cursor after it, or the refusal.
+pub enum Step {
+    Past(Cursor),
+    Refused(Refusal),
+}
+
+// What a row's own items leave to be read: nothing, a run of the row at an offset, the row at an offset, the fields of the
+// record that a mask marks as present (the first field on top); or the refusal.
+pub enum Begun {
+    Done(Cursor),
+    Run(usize, usize, Cursor),
+    Branch(usize, Cursor),
+    Fields(u32, Cursor),
+    Refused(Refusal),
+}
+
+// The row at an offset.
+pub fn read_row(table: &[u8], at: usize, message: &[u8], values: &mut [i64], packed: &mut [u8], room: usize, cursor: Cursor) -> Step
+    requires { ⌜ Obeys (now table) × Starts (now table) at × (length (now message) ≤ 65535) ⌝ }
+    ensures { λ r. ⌜ Reads (now (message .entry)) room (items (now (table .entry)) at) (stateAt cursor (now (values .entry)) (now (packed .entry))) (now (values .exit)) (now (packed .exit)) r ⌝ }
+{
+    let begun = begin::begin(table, at, message, values, packed, room, cursor);
+    match begun {
+        Begun::Done(next) => Step::Past(next),
+        Begun::Run(count, row, next) => read_run(table, at, row, count, message, values, packed, room, next),
+        Begun::Branch(row, next) => read_row(table, row, message, values, packed, room, next),
+        Begun::Fields(mask, next) => read_fields(table, at, mask, message, values, packed, room, next),
+        Begun::Refused(refusal) => Step::Refused(refusal),
+    }
+}
+
+// So many times the row at an offset before `at`.
+fn read_run(table: &[u8], at: usize, row: usize, count: usize, message: &[u8], values: &mut [i64], packed: &mut [u8], room: usize, cursor: Cursor) -> Step
+    requires { ⌜ Obeys (now table) × Starts (now table) at × Earlier (now table) at row × (length (now message) ≤ 65535) ⌝ }
+    ensures { λ r. ⌜ Reads (now (message .entry)) room (times count (items (now (table .entry)) row)) (stateAt cursor (now (values .entry)) (now (packed .entry))) (now (values .exit)) (now (packed .exit)) r ⌝ }
+{
+    let mut done = 0;
+    let mut here = cursor;
+    while done < count {
+        let step = read_row(table, row, message, values, packed, room, here);
+        let Step::Past(next) = step else {
+            return step;
+        };
+        here = next;
+        done += 1;
+    }
+    Step::Past(here)
+}
+
+// The fields of the record at an offset that are marked as present.
+fn read_fields(table: &[u8], at: usize, mask: u32, message: &[u8], values: &mut [i64], packed: &mut [u8], room: usize, cursor: Cursor) -> Step
+    requires { ⌜ Obeys (now table) × Starts (now table) at × (u16 (now table) (at + 2) ≡ 5) × (mask < 2 ^ u16 (now table) (at + 4)) × (length (now message) ≤ 65535) ⌝ }
+    ensures { λ r. ⌜ Reads (now (message .entry)) room (markedFields (now (table .entry)) at mask) (stateAt cursor (now (values .entry)) (now (packed .entry))) (now (values .exit)) (now (packed .exit)) r ⌝ }
+{
+    let fields = octets::u16_at(table, at + 4);
+    let mut field = 0;
+    let mut here = cursor;
+    while field < fields {
+        let row = octets::u16_at(table, at + 6 + 4 * field);
+        let present = begin::is_marked(mask, fields, field);
+        let step = read_field(table, at, row, present, message, values, packed, room, here);
+        let Step::Past(next) = step else {
+            return step;
+        };
+        here = next;
+        field += 1;
+    }
+    Step::Past(here)
+}
+
+// A field, where it is present: the row at an offset before `at`.
+fn read_field(table: &[u8], at: usize, row: usize, present: bool, message: &[u8], values: &mut [i64], packed: &mut [u8], room: usize, cursor: Cursor) -> Step
+    requires { ⌜ Obeys (now table) × Starts (now table) at × Earlier (now table) at row × (length (now message) ≤ 65535) ⌝ }
+    ensures { λ r. ⌜ Reads (now (message .entry)) room (fieldIf present (items (now (table .entry)) row)) (stateAt cursor (now (values .entry)) (now (packed .entry))) (now (values .exit)) (now (packed .exit)) r ⌝ }
+{
+    if present {
+        read_row(table, row, message, values, packed, room, cursor)
+    } else {
+        Step::Past(cursor)
+    }
+}

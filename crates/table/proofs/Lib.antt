@@ -1,0 +1,9 @@
+pub mod Offsets
+pub mod Decides
+pub mod Obeyed
+pub mod LastRow
+pub mod Bools
+pub mod ByKind
+pub mod Steps
+pub mod Loops
+pub mod Walk

@@ -1,0 +1,114 @@
+-- The check's loop over the rows: the scan of Verdict.antt, a row at a time.
+-- Assumes nothing.
+use Prim.Native.Nat.{ℕ, zero, suc, _+_, _≤_, _<_}
+use mathlib.Core.Bool.{Bool, true, false, cond, _&&_, and-eq-true-iff}
+use mathlib.Core.Path.{_≡_, refl, sym, ap, _∙_}
+use mathlib.Core.List.{List}
+use native.Mathlib.Omega.{arith}
+use lib.Dec.{leb, eqb}
+use lib.ListN.{length, set, replicate}
+use borrow.Author.Tests.{leb-true, eqb-true, le-leb, lt-leb, eq-eqb, ne-eqb}
+use Rattle.octets.specs.Numbers.{u16}
+use Rattle.answer.specs.Numbers.{accepted, refused}
+use Rattle.table.specs.Rows.{rowAt, rowLength}
+use Rattle.table.specs.Rules.{knownKind}
+use Rattle.table.specs.Verdict.{rowTest, rowDepth, scan, obeys, verdict, checked}
+use Rattle.table.specs.Steps.{rowTested}
+use Rattle.table.specs.declared.rules.RowTest.the-variants.{Sound, Broken}
+use Rattle.table.proofs.Bools.{cond-second, and-false}
+use Rattle.table.proofs.Decides.{length-four}
+
+-- ── one row ──
+
+-- what a row that passes gives
+record Passes (t : List ℕ) (o : ℕ) (d : List ℕ) (l x : ℕ) : Type 0 where
+  test : rowTest t o d ≡ true
+  length-is : l ≡ u16 t o
+  depth-is : x ≡ rowDepth t o d
+
+sound-passes : (t : List ℕ) (o : ℕ) (d : List ℕ) (l x : ℕ) → rowTested t o d ≡ Sound l x → Passes t o d l x
+unfolding rowTested
+sound-passes t o d l x e = go (rowTest t o d) refl e
+  where
+    go : (b : Bool) → rowTest t o d ≡ b → cond b (Sound (u16 t o) (rowDepth t o d)) Broken ≡ Sound l x → Passes t o d l x
+    go true h e = record { test = h; length-is = cc; depth-is = cc }
+    go false h e = absurd (let z : _≡_ {A = ℕ} 0 1 = cc in omega arith)
+
+broken-fails : (t : List ℕ) (o : ℕ) (d : List ℕ) → rowTested t o d ≡ Broken → rowTest t o d ≡ false
+unfolding rowTested
+broken-fails t o d e = cond-second (rowTest t o d) _ Broken (λ q. let z : _≡_ {A = ℕ} 0 1 = cc in omega arith) e
+
+-- a row that passes ends inside the table, and has four octets at least
+pub row-moves : (t : List ℕ) (o : ℕ) (d : List ℕ) (l x : ℕ) → rowTested t o d ≡ Sound l x → (o + l ≤ length t) × (4 ≤ l)
+unfolding rowTest
+row-moves t o d l x e =
+    let p = sound-passes t o d l x e in
+    let a = and-eq-true-iff (leb (o + 4) (length t)) _ .0 (p .test) in
+    let b = and-eq-true-iff (leb (o + u16 t o) (length t)) _ .0 (a .1) in
+    let k = and-eq-true-iff (knownKind (rowAt t o)) _ .0 (b .1) in
+    let w = and-eq-true-iff (eqb (u16 t o) (rowLength (rowAt t o))) _ .0 (k .1) in
+    let i = leb-true (o + u16 t o) (length t) (b .0) in
+    let s = eqb-true (u16 t o) (rowLength (rowAt t o)) (w .0) in
+    let f = length-four (rowAt t o) (k .0) in
+    (omega (arith, p .length-is), omega (arith, p .length-is))
+
+-- ── the rows that are left ──
+
+-- the scan from the start is the scan from o on, which has rows enough
+abbrev pub Left : List ℕ → List ℕ → ℕ → List ℕ → Type 0
+Left t d₀ o d = (g : ℕ) × (length t < o + suc g) × (scan (suc (length t)) t 0 d₀ ≡ scan (suc g) t o d)
+
+pub left-begins : (t d₀ : List ℕ) → Left t d₀ 0 d₀
+left-begins t d₀ = (length t, omega arith, refl)
+
+module _ (t d₀ : List ℕ) (o : ℕ) (d : List ℕ) (left : Left t d₀ o d) where
+  pub left-ends : length t ≡ o → scan (suc (length t)) t 0 d₀ ≡ true
+  left-ends e = left .2 ∙ rw (eq-eqb o (length t) (sym e))
+
+  module _ (inside : o < length t) where
+    scan-row : (g : ℕ) → scan (suc g) t o d ≡ rowTest t o d && scan g t (o + u16 t o) (set d o (rowDepth t o d))
+    scan-row g = rw (ne-eqb o (length t) (λ e. omega arith))
+
+    pub left-broken : rowTested t o d ≡ Broken → scan (suc (length t)) t 0 d₀ ≡ false
+    left-broken e = left .2 ∙ scan-row (left .0) ∙ rw (broken-fails t o d e)
+
+    more : (g : ℕ) → length t < o + suc g → (k : ℕ) × (g ≡ suc k)
+    more zero h = absurd (omega arith)
+    more (suc k) h = (k, refl)
+
+    pub left-on : (l x : ℕ) → rowTested t o d ≡ Sound l x → Left t d₀ (o + l) (set d o x)
+    left-on l x e =
+        let p = sound-passes t o d l x e in
+        let m = more (left .0) (left .1) in
+        let f = row-moves t o d l x e .1 in (
+          m .0,
+          omega (arith, left .1, m .1),
+          left .2 ∙ scan-row (left .0) ∙ rw (p .test, ← p .length-is, ← p .depth-is) (ap (λ n. scan n t (o + l) (set d o x)) (m .1)),
+        )
+
+-- ── the verdict ──
+
+module _ (t : List ℕ) where
+  unsound : obeys t ≡ false → refused 1 0 ≡ checked (verdict t)
+  unfolding verdict
+  unsound e = rw e
+
+  pub small-broken : length t < 4 → refused 1 0 ≡ checked (verdict t)
+  unfolding obeys
+  small-broken h = unsound (rw (lt-leb 4 (length t) h))
+
+  pub large-broken : 4096 < length t → refused 1 0 ≡ checked (verdict t)
+  unfolding obeys
+  large-broken h = unsound (rw (lt-leb (length t) 4096 h) (and-false (leb 4 (length t))))
+
+  module _ (least : 4 ≤ length t) (most : length t ≤ 4096) where
+    sized : obeys t ≡ scan (suc (length t)) t 0 (replicate 4096 0)
+    unfolding obeys
+    sized = rw (le-leb 4 (length t) least, le-leb (length t) 4096 most)
+
+    pub scan-broken : scan (suc (length t)) t 0 (replicate 4096 0) ≡ false → refused 1 0 ≡ checked (verdict t)
+    scan-broken e = unsound (sized ∙ e)
+
+    pub scan-passed : scan (suc (length t)) t 0 (replicate 4096 0) ≡ true → accepted 0 0 0 ≡ checked (verdict t)
+    unfolding verdict
+    scan-passed e = rw (sized ∙ e)

@@ -1,0 +1,7 @@
+pub mod Offsets
+pub mod Rows
+pub mod Rules
+pub mod Verdict
+pub mod Root
+pub mod Kinds
+pub mod Steps

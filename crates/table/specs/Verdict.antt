@@ -1,0 +1,56 @@
+-- The verdict on a table: one pass over its rows that decides the rules. A reader need not believe it: proofs/Decides.antt
+-- shows that it passes a table exactly when Rules.Obeys holds.
+use Prim.Native.Nat.{ℕ, zero, suc, _+_}
+use mathlib.Core.Bool.{Bool, true, false, cond, not, _&&_}
+use mathlib.Core.List.{List, [], _∷_}
+use lib.Dec.{leb, eqb}
+use lib.ListN.{length, getD, set, replicate}
+use Rattle.octets.specs.Numbers.{u16}
+use Rattle.answer.specs.declared.Answer.{Answer}
+use Rattle.answer.specs.Numbers.{accepted, refused, brokenTable}
+use Rattle.table.specs.Rows.{Row, rowAt, rowLength}
+use Rattle.table.specs.Rules.{knownKind, numbersInBounds, references, hasBranch, deepest}
+
+-- d holds the depth of each row passed so far, at its offset, and 0 elsewhere
+abbrev pub depthIn : List ℕ → ℕ → ℕ
+depthIn d r = getD d r 0
+
+abbrev pub allPassed : List ℕ → List ℕ → Bool
+allPassed d [] = true
+allPassed d (r ∷ rs) = not (eqb (depthIn d r) 0) && allPassed d rs
+
+unfoldable pub rowDepth : List ℕ → ℕ → List ℕ → ℕ
+rowDepth t o d = suc (deepest (depthIn d) (references (rowAt t o)))
+
+-- the row at o against the rules, part by part
+unfoldable pub rowTest : List ℕ → ℕ → List ℕ → Bool
+rowTest t o d =
+    leb (o + 4) (length t) && (leb (o + u16 t o) (length t)
+    && (knownKind (rowAt t o)
+    && (eqb (u16 t o) (rowLength (rowAt t o))
+    && (numbersInBounds (rowAt t o)
+    && (allPassed d (references (rowAt t o))
+    && (hasBranch (rowAt t o)
+    && leb (rowDepth t o d) 32))))))
+
+-- the rows from o on, at most f of them
+abbrev pub scan : ℕ → List ℕ → ℕ → List ℕ → Bool
+scan zero t o d = false
+scan (suc f) t o d = cond (eqb o (length t)) true (rowTest t o d && scan f t (o + u16 t o) (set d o (rowDepth t o d)))
+
+unfoldable pub obeys : List ℕ → Bool
+obeys t = leb 4 (length t) && (leb (length t) 4096 && scan (suc (length t)) t 0 (replicate 4096 0))
+
+-- passed, or broken: a refusal's number and place
+pub data Verdict : Type 0 where
+  passed : Verdict
+  broken : ℕ → ℕ → Verdict
+
+-- the one place where a broken table gets its number and place
+unfoldable pub verdict : List ℕ → Verdict
+verdict t = cond (obeys t) passed (broken brokenTable 0)
+
+-- the check's answer; an accepted check counts nothing
+abbrev pub checked : Verdict → Answer
+checked passed = accepted 0 0 0
+checked (broken number place) = refused number place

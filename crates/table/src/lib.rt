@@ -1,0 +1,58 @@
+// Tables: the row type, and the check of a table against document 01's rules ("Row layout").
+mod row;
+mod rules;
+
+use answer::Answer;
+use answer::Refusal;
+use bits::BitPlace;
+use bits::OctetSize;
+pub use row::Row;
+use rules::RowTest;
+ghost use mathlib.Core.Path.{_≡_};
+ghost use Rattle.answer.specs.Numbers.{refused, brokenTable};
+ghost use Rattle.table.specs.Verdict.{verdict, passed, checked};
+ghost use Rattle.table.specs.Root.{root};
+
+// The answer to a table that breaks a rule.
+fn broken() -> Answer
+    ensures { λ r. ⌜ r ≡ refused brokenTable 0 ⌝ }
+{
+    Answer::refused(Refusal::BROKEN_TABLE, 0)
+}
+
+// Whether a table obeys the rules. One pass over its rows: the depth of each that passes is kept at its offset.
+pub fn check(table: &[u8]) -> Answer
+    ensures { λ r. ⌜ r ≡ checked (verdict (now (table .entry))) ⌝ }
+{
+    if table.len() < Row::LEAST_TABLE {
+        return broken();
+    }
+    if Row::MOST_TABLE < table.len() {
+        return broken();
+    }
+    let mut depths = [0u8; Row::MOST_TABLE];
+    let mut at = 0;
+    while at < table.len() {
+        let test = rules::row_test(table, at, &depths);
+        let RowTest::Sound(length, depth) = test else {
+            return broken();
+        };
+        depths[at] = depth;
+        at += length;
+    }
+    Answer::accepted(0, BitPlace(0), OctetSize(0))
+}
+
+// The offset of the root, the last row, of a table that obeys the rules.
+pub fn root(table: &[u8]) -> usize
+    requires { ⌜ verdict (now table) ≡ passed ⌝ }
+    ensures { λ r. ⌜ r ≡ root (now (table .entry)) ⌝ }
+{
+    let mut at = 0;
+    let mut next = Row::length_at(table, at);
+    while next < table.len() {
+        at = next;
+        next = at + Row::length_at(table, at);
+    }
+    at
+}

@@ -1,0 +1,37 @@
+// What a host written in Rust or C calls: check and read under a lent table, on plain numbers and octet slices. A value is
+// eight octets, little-endian, two's complement; octets after the last whole eight of a value slice hold none.
+use answer::Answer;
+
+ghost use mathlib.Core.Path.{_≡_};
+ghost use Prim.Native.Nat.{_/_};
+ghost use lib.ListN.{length};
+ghost use Rattle.values.specs.Values.{listOctets};
+ghost use Rattle.table.specs.Verdict.{verdict, checked};
+ghost use Rattle.encoding.specs.Reading.{readOutcome, readValues};
+ghost use Rattle.encoding.specs.Calls.{readCall, filled};
+ghost use Rattle.teyolxan.specs.Told.{told};
+
+// The answer as six numbers: the refusal's number, its place, the values, the bits, the octets, and 0.
+fn told(answer: Answer) -> [u64; 6]
+    ensures { λ r. ⌜ r ≡ told answer ⌝ }
+{
+    match answer {
+        Answer::Accepted(counts) => [0, 0, counts.values as u64, counts.bits.0 as u64, counts.octets.0 as u64, 0],
+        Answer::Refused(refusal) => [refusal.number as u64, refusal.place as u64, 0, 0, 0, 0],
+    }
+}
+
+#[no_mangle]
+pub extern "C" fn teyolxan_check(table: &[u8], numbers: &mut [u64; 6])
+    ensures { λ _. ⌜ now (numbers .exit) ≡ told (checked (verdict (now (table .entry)))) ⌝ }
+{
+    *numbers = told(table::check(table));
+}
+
+#[no_mangle]
+pub extern "C" fn teyolxan_read(table: &[u8], message: &[u8], values: &mut [u8], numbers: &mut [u64; 6])
+    ensures { λ _. ⌜ (now (numbers .exit) ≡ told (readCall (now (table .entry)) (now (message .entry)) (length (now (values .entry)) / 8))) × (now (values .exit) ≡ filled 0 (length (now (values .entry))) (listOctets (readValues (readOutcome (now (table .entry)) (now (message .entry)) (length (now (values .entry)) / 8))))) ⌝ }
+{
+    let answer = codec::read_packed(table, message, values);
+    *numbers = told(answer);
+}

@@ -1,0 +1,80 @@
+//! Wrong codecs: the reference with one planted fault each. A comparison that misses one of them
+//! compares too little.
+
+use crate::codec::Codec;
+use crate::reference::Engine;
+
+macro_rules! faults {
+    ($($(#[$about:meta])* $fault:ident,)*) => {
+        /// What is wrong with a codec; each fault stands at one place of the reference.
+        #[derive(Clone, Copy, Debug, PartialEq, Eq)]
+        #[repr(u8)]
+        pub enum Fault {
+            /// Nothing: the reference itself.
+            None,
+            $($(#[$about])* $fault,)*
+        }
+
+        impl Fault {
+            /// In the order of their numbers.
+            pub const ALL: &[Fault] = &[Fault::None, $(Fault::$fault,)*];
+        }
+
+        /// Every fault, with the codec that has it.
+        pub fn all() -> Vec<(Fault, Box<dyn Codec>)> {
+            vec![$((Fault::$fault, Box::new(Engine::<{ Fault::$fault as u8 }>)),)*]
+        }
+    };
+}
+
+faults! {
+    /// Check: only the low octet of a kind is looked at.
+    KindLowOctet,
+    /// Check: a reference into the middle of a number passes where the octets there look like a
+    /// variable number.
+    ReferenceInsideRow,
+    /// Check: a row of depth 33 passes.
+    DepthOneMore,
+    /// Number: its bits are too few for a span that is a power of two.
+    NumberWidth,
+    /// Choice: its index takes a bit too many where m is a power of two.
+    IndexWidth,
+    /// Reading: a number above its span goes through.
+    SpanNotTested,
+    /// Reading: the room is tested before the span.
+    RoomBeforeSpan,
+    /// Reading: a length 80 05 is kept as 5.
+    ShortInLongForm,
+    /// Reading: a missing second octet of a length is told at that octet.
+    SecondOctetPlace,
+    /// Reading: each presence bit stands before its field.
+    PresenceBesideField,
+    /// Reading: the padding may hold anything.
+    PaddingNotTested,
+    /// Reading: the values read before a refusal stay.
+    ValuesKept,
+    /// Reading: octets after the last whole eight keep what they held.
+    TailKept,
+    /// Reading: a message of 65,536 octets goes through.
+    MessageOneLonger,
+    /// Writing: a value's distance from the least one is taken in 32 bits.
+    NarrowDistance,
+    /// Writing: a full output is told before a wrong value.
+    RoomBeforeValue,
+    /// Writing: values left over are ignored.
+    LeftOverTaken,
+    /// Writing: a root of 0 bits takes no octet.
+    EmptyRootUncounted,
+    /// Writing: more than 65,535 octets are written.
+    OutputNotLimited,
+    /// An LM by name: the subtype is tested before the version.
+    SubtypeFirst,
+    /// User data: what follows it is not tested.
+    RestNotTested,
+    /// Elements: a home that does not exist is taken for another home.
+    HomeNotTested,
+    /// Opened message: too few bits are told before too wide a number.
+    BitsBeforeWidth,
+    /// Bench program: a frame of unknown kind is not counted.
+    UnknownKindUncounted,
+}

@@ -1,0 +1,487 @@
+//! The text format of the case files in `vectors/`, and their runner.
+//!
+//! A line holds one call and its outcome, in cells separated by one space; a line that starts with
+//! `#` is a note. Octets are `-` if there are none, else hex segments joined by `+`, where `XX*N` is
+//! the octet XX N times. Values are `-` if there are none, else decimal numbers joined by `,`,
+//! where `V*N` is V N times. The second cell, except in `element` lines, is `-`: the line rests on
+//! document 01 alone.
+//!
+//! | Line | Outcome |
+//! |---|---|
+//! | `check - TABLE` | `ok` or a refusal |
+//! | `read - TABLE MESSAGE ROOM` | `ok COUNT BITS VALUES` or a refusal |
+//! | `write - TABLE VALUES LENGTH` | `ok COUNT OCTETS` or a refusal |
+//! | `userdata - MESSAGE` | `ok START LENGTH` or a refusal |
+//! | `element ID HOME` | `here`, `elsewhere` or `unknown` |
+//! | `take - MESSAGE K,K,..` | `ok` or `no:13:0:0`, then `ok:NUMBER:PLACE` or `no:NUMBER:PLACE:0` for each |
+//! | `bench - STREAM` | the text printed, with a bar for each line end |
+//!
+//! TABLE is octets, or `LM` for the built-in table by name. A refusal is `no NUMBER PLACE 0`; the
+//! last cell is kept for a later count of missing bits.
+//!
+//! A value slice is lent with 0 to 7 octets after its values, by the line's number, which a codec
+//! has to ignore or zero.
+
+use std::collections::BTreeMap;
+use std::fmt::Write as _;
+
+use crate::case::{Case, Outcome, Table};
+use crate::codec::{value_octets, Answer, Bits, Call, Codec, Element, Part, Refusal, Taken};
+
+/// A call with the outcome that it has to have.
+#[derive(Clone, Debug)]
+pub struct Vector {
+    /// The line's number in its file, from 1.
+    pub line: usize,
+    pub case: Case,
+    pub expected: Outcome,
+}
+
+/// Reads a case file. The error names the line that is not understood.
+pub fn parse(text: &str) -> Result<Vec<Vector>, String> {
+    let mut vectors = Vec::new();
+    for (index, words) in text.lines().enumerate() {
+        if words.is_empty() || words.starts_with('#') {
+            continue;
+        }
+        let line = index + 1;
+        let (case, expected) = parse_line(words, line % 8)
+            .map_err(|error| format!("line {line}: {error}: {words:.100}"))?;
+        vectors.push(Vector {
+            line,
+            case,
+            expected,
+        });
+    }
+    Ok(vectors)
+}
+
+/// What a run over vectors came to.
+#[derive(Debug, Default)]
+pub struct Report {
+    /// The cases run, by call.
+    pub run: BTreeMap<Call, usize>,
+    /// The cases whose call the codec does not offer.
+    pub skipped: usize,
+    /// A text for each case with another outcome than the file has.
+    pub differences: Vec<String>,
+}
+
+impl Report {
+    pub fn total(&self) -> usize {
+        self.run.values().sum()
+    }
+}
+
+/// Runs every vector whose call the codec offers.
+pub fn run(codec: &dyn Codec, vectors: &[Vector]) -> Report {
+    let mut report = Report::default();
+    for vector in vectors {
+        let call = vector.case.call();
+        if !codec.offers(call) {
+            report.skipped += 1;
+            continue;
+        }
+        *report.run.entry(call).or_default() += 1;
+        let outcome = vector.case.run(codec);
+        if outcome != vector.expected {
+            report.differences.push(format!(
+                "line {}: {}\n  expected {}\n  {} gave {}",
+                vector.line,
+                case_text(&vector.case),
+                outcome_text(&vector.expected),
+                codec.name(),
+                outcome_text(&outcome),
+            ));
+        }
+    }
+    report
+}
+
+// ---- Reading lines ---------------------------------------------------------------------------
+
+/// The cells of a line that are still to be read.
+struct Cells<'a>(&'a str);
+
+impl<'a> Cells<'a> {
+    fn next(&mut self) -> Result<&'a str, String> {
+        if self.0.is_empty() {
+            return Err("a cell is missing".to_string());
+        }
+        let (cell, rest) = self.0.split_once(' ').unwrap_or((self.0, ""));
+        self.0 = rest;
+        Ok(cell)
+    }
+
+    fn number<N: std::str::FromStr>(&mut self) -> Result<N, String> {
+        number(self.next()?)
+    }
+
+    fn octets(&mut self) -> Result<Vec<u8>, String> {
+        octets(self.next()?)
+    }
+
+    fn table(&mut self) -> Result<Table, String> {
+        match self.next()? {
+            "LM" => Ok(Table::Lm),
+            cell => Ok(Table::Lent(octets(cell)?)),
+        }
+    }
+
+    /// `Ok` after the cell `ok`, else the refusal.
+    fn verdict(&mut self) -> Result<Result<(), Refusal>, String> {
+        match self.next()? {
+            "ok" => Ok(Ok(())),
+            "no" => {
+                let refusal = Refusal {
+                    number: self.number()?,
+                    place: self.number()?,
+                };
+                no_count(self.next()?)?;
+                Ok(Err(refusal))
+            }
+            cell => Err(format!("{cell} is neither ok nor no")),
+        }
+    }
+
+    fn end(&self) -> Result<(), String> {
+        if self.0.is_empty() {
+            return Ok(());
+        }
+        Err("a cell is left".to_string())
+    }
+}
+
+fn parse_line(words: &str, tail: usize) -> Result<(Case, Outcome), String> {
+    let mut cells = Cells(words);
+    let name = cells.next()?;
+    if name != "element" && cells.next()? != "-" {
+        return Err("the line does not rest on document 01 alone".to_string());
+    }
+    let parsed = match name {
+        "check" => {
+            let table = cells.octets()?;
+            let answer = match cells.verdict()? {
+                Ok(()) => Answer::PASSED,
+                Err(refusal) => refusal.into(),
+            };
+            (Case::Check { table }, Outcome::Checked(answer))
+        }
+        "read" => {
+            let table = cells.table()?;
+            let message = cells.octets()?;
+            let size = 8 * cells.number::<usize>()? + tail;
+            let (answer, list) = match cells.verdict()? {
+                Ok(()) => {
+                    let (count, bits) = (cells.number()?, cells.number()?);
+                    let answer = Answer::Accepted {
+                        values: count,
+                        bits,
+                        octets: 0,
+                    };
+                    (answer, value_octets(&values(cells.next()?)?))
+                }
+                Err(refusal) => (refusal.into(), Vec::new()),
+            };
+            let case = Case::Read {
+                table,
+                message,
+                value_octets: size,
+            };
+            (case, Outcome::Filled(answer, zeros_after(list, size)?))
+        }
+        "write" => {
+            let table = cells.table()?;
+            let mut list = value_octets(&values(cells.next()?)?);
+            list.extend(vec![0x5A; tail]);
+            let size = cells.number()?;
+            let (answer, message) = match cells.verdict()? {
+                Ok(()) => {
+                    let answer = Answer::Accepted {
+                        values: 0,
+                        bits: 0,
+                        octets: cells.number()?,
+                    };
+                    (answer, cells.octets()?)
+                }
+                Err(refusal) => (refusal.into(), Vec::new()),
+            };
+            let case = Case::Write {
+                table,
+                values: list,
+                output: size,
+            };
+            (case, Outcome::Filled(answer, zeros_after(message, size)?))
+        }
+        "userdata" => {
+            let message = cells.octets()?;
+            let part = match cells.verdict()? {
+                Ok(()) => Ok(Part {
+                    start: cells.number()?,
+                    length: cells.number()?,
+                }),
+                Err(refusal) => Err(refusal),
+            };
+            (Case::UserData { message }, Outcome::UserData(part))
+        }
+        "element" => {
+            let (id, home) = (cells.number()?, cells.number()?);
+            let element = match cells.next()? {
+                "here" => Element::Here,
+                "elsewhere" => Element::Elsewhere,
+                "unknown" => Element::Unknown,
+                cell => return Err(format!("{cell} is no answer")),
+            };
+            (Case::Element { id, home }, Outcome::Element(element))
+        }
+        "take" => {
+            let message = cells.octets()?;
+            let widths = cells
+                .next()?
+                .split(',')
+                .map(number)
+                .collect::<Result<Vec<u64>, String>>()?;
+            let opened = step(cells.next()?)?.map(|_| ());
+            let mut steps = Vec::new();
+            for _ in &widths {
+                steps.push(step(cells.next()?)?);
+            }
+            let taken = Taken { opened, steps };
+            (Case::Take { message, widths }, Outcome::Taken(taken))
+        }
+        "bench" => {
+            let stream = cells.octets()?;
+            let text = cells.0.replace('|', "\n");
+            cells.0 = "";
+            (Case::Bench { stream }, Outcome::Printed(text))
+        }
+        name => return Err(format!("{name} is no call")),
+    };
+    cells.end()?;
+    Ok(parsed)
+}
+
+fn number<N: std::str::FromStr>(cell: &str) -> Result<N, String> {
+    cell.parse().map_err(|_| format!("{cell} is no number"))
+}
+
+fn no_count(cell: &str) -> Result<(), String> {
+    if cell == "0" {
+        return Ok(());
+    }
+    Err("document 01 has no count of missing bits".to_string())
+}
+
+/// A cell of octets.
+pub fn octets(cell: &str) -> Result<Vec<u8>, String> {
+    let mut octets = Vec::new();
+    if cell == "-" {
+        return Ok(octets);
+    }
+    let digits = |pair: &str| {
+        u8::from_str_radix(pair, 16).map_err(|_| format!("{pair} is no octet in hexadecimal"))
+    };
+    for segment in cell.split('+') {
+        if let Some((octet, times)) = segment.split_once('*') {
+            octets.extend(vec![digits(octet)?; number(times)?]);
+            continue;
+        }
+        for at in (0..segment.len()).step_by(2) {
+            octets.push(digits(segment.get(at..at + 2).unwrap_or(""))?);
+        }
+    }
+    Ok(octets)
+}
+
+/// A cell of values.
+pub fn values(cell: &str) -> Result<Vec<i64>, String> {
+    let mut values = Vec::new();
+    if cell == "-" {
+        return Ok(values);
+    }
+    for segment in cell.split(',') {
+        match segment.split_once('*') {
+            Some((value, times)) => values.extend(vec![number::<i64>(value)?; number(times)?]),
+            None => values.push(number(segment)?),
+        }
+    }
+    Ok(values)
+}
+
+/// `ok`, `ok:NUMBER:PLACE` or `no:NUMBER:PLACE:0`.
+fn step(cell: &str) -> Result<Result<Bits, Refusal>, String> {
+    let parts: Vec<&str> = cell.split(':').collect();
+    match parts[..] {
+        ["ok"] => Ok(Ok(Bits {
+            number: 0,
+            place: 0,
+        })),
+        ["ok", taken, place] => Ok(Ok(Bits {
+            number: number(taken)?,
+            place: number(place)?,
+        })),
+        ["no", refused, place, count] => {
+            no_count(count)?;
+            Ok(Err(Refusal {
+                number: number(refused)?,
+                place: number(place)?,
+            }))
+        }
+        _ => Err(format!("{cell} is no step")),
+    }
+}
+
+/// What a slice of this size holds after a call: the answer, then zeros.
+fn zeros_after(mut answer: Vec<u8>, size: usize) -> Result<Vec<u8>, String> {
+    if answer.len() > size {
+        return Err("the answer is longer than its slice".to_string());
+    }
+    answer.resize(size, 0);
+    Ok(answer)
+}
+
+// ---- Writing lines ---------------------------------------------------------------------------
+
+/// Octets as a cell.
+pub fn octets_cell(octets: &[u8]) -> String {
+    if octets.is_empty() {
+        return "-".to_string();
+    }
+    let mut cell = String::new();
+    let mut broken = false; // whether the next segment needs a `+`
+    for run in octets.chunk_by(|left, right| left == right) {
+        if run.len() < 8 {
+            if broken {
+                cell.push('+');
+            }
+            for octet in run {
+                let _ = write!(cell, "{octet:02x}");
+            }
+            broken = false;
+        } else {
+            if !cell.is_empty() {
+                cell.push('+');
+            }
+            let _ = write!(cell, "{:02x}*{}", run[0], run.len());
+            broken = true;
+        }
+    }
+    cell
+}
+
+/// Values in the host's form as a cell; octets after the last whole eight stand behind it.
+pub fn values_cell(octets: &[u8]) -> String {
+    let (whole, tail) = octets.as_chunks::<8>();
+    let runs: Vec<String> = whole
+        .chunk_by(|left, right| left == right)
+        .map(|run| match (i64::from_le_bytes(run[0]), run.len()) {
+            (value, 1) => format!("{value}"),
+            (value, times) => format!("{value}*{times}"),
+        })
+        .collect();
+    let mut cell = if runs.is_empty() {
+        "-".to_string()
+    } else {
+        runs.join(",")
+    };
+    if !tail.is_empty() {
+        let _ = write!(cell, " (then octets {})", octets_cell(tail));
+    }
+    cell
+}
+
+/// A case in words, its input as cells.
+pub fn case_text(case: &Case) -> String {
+    let table_cell = |table: &Table| match table {
+        Table::Lent(table) => octets_cell(table),
+        Table::Lm => "LM".to_string(),
+    };
+    match case {
+        Case::Check { table } => format!("check - {}", octets_cell(table)),
+        Case::Read {
+            table,
+            message,
+            value_octets,
+        } => format!(
+            "read - {} {} {} (value slice of {value_octets} octets)",
+            table_cell(table),
+            octets_cell(message),
+            value_octets / 8,
+        ),
+        Case::Write {
+            table,
+            values,
+            output,
+        } => format!(
+            "write - {} {} {output}",
+            table_cell(table),
+            values_cell(values)
+        ),
+        Case::UserData { message } => format!("userdata - {}", octets_cell(message)),
+        Case::Element { id, home } => format!("element {id} {home}"),
+        Case::Take { message, widths } => {
+            let widths: Vec<String> = widths.iter().map(u64::to_string).collect();
+            format!("take - {} {}", octets_cell(message), widths.join(","))
+        }
+        Case::Bench { stream } => format!("bench - {}", octets_cell(stream)),
+    }
+}
+
+/// An outcome in words, its slice as a cell of octets.
+pub fn outcome_text(outcome: &Outcome) -> String {
+    match outcome {
+        Outcome::Checked(answer) => format!("{answer:?}"),
+        Outcome::Filled(answer, slice) => format!("{answer:?} and {}", octets_cell(slice)),
+        Outcome::UserData(part) => format!("{part:?}"),
+        Outcome::Element(element) => format!("{element:?}"),
+        Outcome::Taken(taken) => format!("{taken:?}"),
+        Outcome::Printed(text) => text.replace('\n', "|"),
+    }
+}
+
+#[cfg(test)]
+mod tests {
+    use super::*;
+
+    #[test]
+    fn cells_are_read_as_they_are_written() {
+        for cell in [
+            "-",
+            "00",
+            "0c000100",
+            "00*70000",
+            "0102+ff*26+00",
+            "ff*9+00*8",
+        ] {
+            assert_eq!(octets_cell(&octets(cell).unwrap()), cell);
+        }
+        for cell in [
+            "-",
+            "5",
+            "-9223372036854775808,9223372036854775807",
+            "16383,7*16383",
+        ] {
+            assert_eq!(values_cell(&value_octets(&values(cell).unwrap())), cell);
+        }
+        assert_eq!(octets("01*3+02").unwrap(), [1, 1, 1, 2]);
+        assert_eq!(values("1*3,-2").unwrap(), [1, 1, 1, -2]);
+        assert!(octets("0").is_err());
+        assert!(octets("0g").is_err());
+        assert!(values("1,").is_err());
+    }
+
+    #[test]
+    fn lines_that_are_not_understood_are_errors() {
+        for line in [
+            "check - 04000200",
+            "check 1 04000200 ok",
+            "check - 04000200 ok 1",
+            "check - 04000200 no 1 0",
+            "check - 04000200 no 1 0 8",
+            "read - LM 03 1 ok 2 0 1,2",
+            "first - LM 03 1 ok 1 8 1",
+        ] {
+            assert!(parse(line).is_err(), "{line}");
+        }
+    }
+}
