@@ -7,28 +7,40 @@ use Rattle.answer.specs.declared.Counts.{Counts}
 -- the numbers
 abbrev pub brokenTable : ℕ
 brokenTable = 1
+
 abbrev pub messageEnds : ℕ
 messageEnds = 2
+
 abbrev pub aboveSpan : ℕ
 aboveSpan = 3
+
 abbrev pub noBranch : ℕ
 noBranch = 4
+
 abbrev pub badLength : ℕ
 badLength = 5
+
 abbrev pub aboveMost : ℕ
 aboveMost = 6
+
 abbrev pub badVariable : ℕ
 badVariable = 7
+
 abbrev pub noRoom : ℕ
 noRoom = 8
+
 abbrev pub notPadding : ℕ
 notPadding = 9
+
 abbrev pub wrongVersion : ℕ
 wrongVersion = 10
+
 abbrev pub wrongSubtype : ℕ
 wrongSubtype = 11
+
 abbrev pub wrongValue : ℕ
 wrongValue = 12
+
 abbrev pub tooLong : ℕ
 tooLong = 13
 

@@ -62,6 +62,10 @@ impl Answer {
     pub fn accepted(values: usize, bits: BitPlace, octets: OctetSize) -> Answer
         ensures { λ r. ⌜ r ≡ accepted values (bits .0) (octets .0) ⌝ }
     {
-        Answer::Accepted(Counts { values, bits, octets })
+        Answer::Accepted(Counts {
+            values,
+            bits,
+            octets,
+        })
     }
 }

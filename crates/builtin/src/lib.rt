@@ -156,7 +156,9 @@ pub const SRM: [u8; 194] = *b"\
 
 // The offsets of their roots.
 pub const LM_ROOT: usize = 546;
+
 pub const SAM_ROOT: usize = 342;
+
 pub const SRM_ROOT: usize = 180;
 
 // The LM table by value: the list of specs/Tables.antt.

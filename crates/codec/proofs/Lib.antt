@@ -1,2 +1,3 @@
 pub mod Roots
 pub mod Settled
+pub mod Ends

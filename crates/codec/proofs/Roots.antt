@@ -55,13 +55,13 @@ module _ (m : List ℕ) (c : Cursor) where
   rest k h = take-all k (drop (c .place .0) (unpack m)) (rw (length-drop, length-unpack) (omega arith))
 
   pub not-zero : (k n : ℕ) → length m ≡ size (c .place .0) → c .place .0 + k ≡ 8 * length m → n ≡ numberOf (take k (drop (c .place .0) (unpack m))) → n ≢ 0
-    → refused 9 (c .place .0) ≡ closed m c
+      → refused 9 (c .place .0) ≡ closed m c
   not-zero k n e h q z =
       let b : numberOf (drop (c .place .0) (unpack m)) ≢ 0 = λ y. z (q ∙ ap numberOf (rest k h) ∙ y) in
       rw (eq-eqb (length m) (size (c .place .0)) e, nonzero-bits (drop (c .place .0) (unpack m)) b)
 
   pub all-zero : (k n : ℕ) → length m ≡ size (c .place .0) → c .place .0 + k ≡ 8 * length m → n ≡ numberOf (take k (drop (c .place .0) (unpack m))) → n ≡ 0
-    → accepted (c .count) (c .place .0) 0 ≡ closed m c
+      → accepted (c .count) (c .place .0) 0 ≡ closed m c
   all-zero k n e h q z =
       rw (eq-eqb (length m) (size (c .place .0)) e, zero-bits (drop (c .place .0) (unpack m)) (sym (q ∙ ap numberOf (rest k h)) ∙ z))
 
@@ -72,7 +72,7 @@ decode-close p [] room h = absurd (omega arith)
 decode-close p (o ∷ os) room h = refl
 
 module _ (p : Items) (s : List ℕ) (room : ℕ) (old new : List ℤ) (oldPacked newPacked : List ℕ) (step : Step) (some : 0 < length s)
-  (reads : Reads s room p (stateAt (cursorAt 0 0) old oldPacked) new newPacked step) where
+    (reads : Reads s room p (stateAt (cursorAt 0 0) old oldPacked) new newPacked step) where
   -- what is known of the outcome, by the walk
   abbrev Comes : ReadOutcome → Answer → Type 0
   Comes x r = (r ≡ readAnswer x) × KeptBy set x old new × KeptBy setValue x oldPacked newPacked
@@ -91,7 +91,7 @@ module _ (p : Items) (s : List ℕ) (room : ℕ) (old new : List ℤ) (oldPacked
       go (stuck n at) a = let q : StepRefused (record { number = n; place = at }) ≡ StepRefused refusal = sym (a .answer) ∙ e in (cc, tt, tt)
 
   either : (t : Bool) (vs : List ℤ) (at : ℕ) → new ≡ storeAll set old 0 vs → newPacked ≡ storeAll setValue oldPacked 0 vs
-    → Comes (cond t (accept vs at) (refuse 9 at)) (cond t (accepted (length vs) at 0) (refused 9 at))
+      → Comes (cond t (accept vs at) (refuse 9 at)) (cond t (accepted (length vs) at 0) (refused 9 at))
   either true vs at k l = (refl, k, l)
   either false vs at k l = (refl, tt, tt)
 
@@ -100,7 +100,7 @@ module _ (p : Items) (s : List ℕ) (room : ℕ) (old new : List ℤ) (oldPacked
   root-read c e = go (readItems p (unpack s) room 0) refl (by-reading (readItems p (unpack s) room 0) refl)
     where
       go : (x : Reading) → readItems p (unpack s) room 0 ≡ x → Agrees 0 old new oldPacked newPacked step (forget x)
-        → (c .place .0 ≤ 8 * length s) × Comes (decode p s room) (closed s c)
+          → (c .place .0 ≤ 8 * length s) × Comes (decode p s room) (closed s c)
       go (stuck n at) q a = let z : _≡_ {A = ℕ} 0 1 = cc (a .answer) in absurd (omega arith)
       go (done vs at r) q a =
           let b = unpack s in
@@ -110,6 +110,7 @@ module _ (p : Items) (s : List ℕ) (room : ℕ) (old new : List ℤ) (oldPacked
           let en : c .count ≡ length vs = sym (ap (λ (x : Cursor). x .count) ec) ∙ zero-add (length vs) in
           let ea : at ≡ length (encodingBits p vs) = so .ends ∙ zero-add _ in
           let er : drop at b ≡ r = ap₂ drop ea (so .spelt) ∙ drop-at (encodingBits p vs) r (length (encodingBits p vs)) refl in
-          let l : length (encodingBits p vs) + length r ≡ 8 * length s = sym (length-append (encodingBits p vs) r) ∙ ap length (sym (so .spelt)) ∙ length-unpack s in
-          (omega arith,
-           rw (decode-close p s room some, q, ep, en, er) (either (eqb (length s) (size at) && allZero r) vs at (a .values) (a .packed)))
+          let l : length (encodingBits p vs) + length r ≡ 8 * length s = sym (length-append (encodingBits p vs) r) ∙ ap length (sym (so .spelt)) ∙ length-unpack s in (
+            omega arith,
+            rw (decode-close p s room some, q, ep, en, er) (either (eqb (length s) (size at) && allZero r) vs at (a .values) (a .packed)),
+          )

@@ -45,7 +45,7 @@ passed-outcome t s room h = rw (passes-exactly t .1 h)
 
 -- and under one that didn't
 pub broken-outcome : (t s : List ℕ) (room : ℕ) (r : Answer) (refusal : Refusal) → r ≡ checked (verdict t) → r ≡ Refused refusal
-  → (r ≡ readAnswer (readOutcome t s room)) × (readValues (readOutcome t s room) ≡ [])
+    → (r ≡ readAnswer (readOutcome t s room)) × (readValues (readOutcome t s room) ≡ [])
 unfolding readOutcome
 broken-outcome t s room r refusal e a = go (verdict t) (sym e ∙ a) e
   where
@@ -67,6 +67,7 @@ decode-fits p (o ∷ os) room vs n e = go (readItems p (unpack (o ∷ os)) room 
     test : (t : Bool) (us : List ℤ) (at : ℕ) → cond t (accept us at) (refuse 9 at) ≡ accept vs n → us ≡ vs
     test true us at e = cc
     test false us at e = cc
+
     go : (x : Reading) → readItems p (unpack (o ∷ os)) room 0 ≡ x → closeRead (length (o ∷ os)) x ≡ accept vs n → length vs ≤ room
     go (stuck m at) q e = let z : _≡_ {A = ℕ} 0 1 = cc in absurd (omega arith)
     go (done us at r) q e = rw (← test (eqb (length (o ∷ os)) (size at) && allZero r) us at e) (read-sound p (unpack (o ∷ os)) room 0 us at r q .fits)
@@ -87,12 +88,12 @@ count-is (accept vs n) = refl
 count-is (refuse n p) = refl
 
 pub settled-values : (x : ReadOutcome) (old new : List ℤ) → length (readValues x) ≤ length old → length new ≡ length old → KeptBy set x old new
-  → take (length (readValues x)) new ++ replicate (length new - length (readValues x)) (pos 0) ≡ valuesAfter (length old) x
+    → take (length (readValues x)) new ++ replicate (length new - length (readValues x)) (pos 0) ≡ valuesAfter (length old) x
 settled-values (accept vs n) old new l e k = rw (e, k) (cleared-values vs old l)
 settled-values (refuse n p) old new l e k = ap (λ m. replicate (m - 0) (pos 0)) e
 
 pub settled-packed : (x : ReadOutcome) (old new : List ℕ) → 8 * length (readValues x) ≤ length old → length new ≡ length old → KeptBy setValue x old new
-  → take (8 * length (readValues x)) new ++ replicate (length new - 8 * length (readValues x)) 0 ≡ filled 0 (length old) (listOctets (readValues x))
+    → take (8 * length (readValues x)) new ++ replicate (length new - 8 * length (readValues x)) 0 ≡ filled 0 (length old) (listOctets (readValues x))
 unfolding listOctets
 settled-packed (accept vs n) old new l e k = rw (e, k, length-listOctets vs) (cleared-octets vs old l)
 settled-packed (refuse n p) old new l e k = ap (λ m. replicate (m - 0) 0) e

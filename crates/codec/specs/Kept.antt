@@ -1,19 +1,25 @@
--- What reading leaves in the lent slices before their rest is zeroed, and the close of a message, for the private functions.
-use Prim.Native.Nat.{ℕ, _+_, _*_}
+-- What reading and writing leave in the lent slices before their rest is zeroed, and the close of a message: for the private
+-- functions. No contract of a public call cites this file.
+use Prim.Native.Nat.{ℕ, _+_, _-_, _*_, _≤_, _<_}
 use mathlib.Core.Bool.{Bool, cond, _&&_}
 use mathlib.Core.Path.{_≡_}
 use mathlib.Core.List.{List}
-use lib.Dec.{leb, eqb}
+use lib.Dec.{leb, ltb, eqb}
 use lib.IntN.{ℤ}
-use lib.ListN.{length, drop}
-use Rattle.bits.specs.Bits.{unpack}
-use Rattle.answer.specs.Numbers.{accepted, refused, notPadding, tooLong}
+use lib.ListN.{length, take, drop}
+use Rattle.bits.specs.Bits.{bitsOf, unpack}
+use Rattle.bits.specs.Access.{overwritten}
+use Rattle.answer.specs.Numbers.{accepted, refused, notPadding, tooLong, wrongValue, noRoom}
 use Rattle.answer.specs.declared.Answer.{Answer}
 use Rattle.answer.specs.declared.Answer.the-variants.{Accepted, Refused}
 use Rattle.values.specs.Values.{storeAll}
 use Rattle.encoding.specs.Encoding.{size}
 use Rattle.encoding.specs.Reading.{ReadOutcome, accept, refuse, allZero, decode}
+use Rattle.encoding.specs.Writing.{WriteOutcome, written, unwritten}
 use Rattle.encoding.specs.Rows.{asks}
+use Rattle.writer.specs.declared.Cursor.{Cursor as WriterCursor}
+use Rattle.writer.specs.declared.Step.{Step as WriterStep}
+use Rattle.writer.specs.declared.Step.the-variants.{Past as WriterPast, Refused as WriterRefused}
 use Rattle.reader.specs.declared.Cursor.{Cursor}
 use Rattle.reader.specs.declared.Step.{Step}
 use Rattle.reader.specs.declared.Step.the-variants.{Past, Refused as StepRefused}
@@ -43,3 +49,31 @@ stepAnswer (StepRefused refusal) = Refused refusal
 -- reading under a table that was passed
 abbrev pub messageOutcome : List ℕ → List ℕ → ℕ → ReadOutcome
 messageOutcome t s room = cond (leb (length s) 65535) (decode (asks t) s room) (refuse tooLong 0)
+
+-- ── writing ──
+
+-- an accepted outcome's octets stand at the output's start; a refusal leaves anything
+abbrev pub WrittenBy : WriteOutcome → List ℕ → Type 0
+WrittenBy (written s) new = (length s ≤ length new) × (take (length s) new ≡ s)
+WrittenBy (unwritten number index) new = Unit {0}
+
+-- a step as an answer
+abbrev pub writerAnswer : WriterStep → Answer
+writerAnswer (WriterPast c) = accepted 0 0 0
+writerAnswer (WriterRefused refusal) = Refused refusal
+
+-- the end of a message of n values into cap octets, whose root ends at a cursor
+abbrev pub endedAnswer : ℕ → ℕ → WriterCursor → Answer
+endedAnswer n cap c =
+    cond (ltb (c .index) n) (refused wrongValue (c .index)) (cond (eqb cap 0) (refused noRoom n) (accepted 0 0 (size (c .place .0))))
+
+-- and what it leaves where it accepts: zero bits from the cursor on to the octet's end
+abbrev pub Ended : ℕ → List ℕ → List ℕ → WriterCursor → Type 0
+Ended n old new c =
+    n ≤ c .index → 0 < length old
+    → unpack new ≡ overwritten (unpack old) (c .place .0) (bitsOf (8 * size (c .place .0) - c .place .0) 0)
+
+-- how many octets an answer says were written
+abbrev pub writtenCount : Answer → ℕ
+writtenCount (Accepted counts) = counts .octets .0
+writtenCount (Refused refusal) = 0

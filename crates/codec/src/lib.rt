@@ -1,17 +1,19 @@
 // Reading and writing under a lent table: the check, the root, the padding, and zeros after the answer. No call here asks
 // anything of its arguments, but for read_known, for tables whose check is proved.
 pub mod reading;
+pub mod writing;
 
 use answer::Answer;
-
 ghost use mathlib.Core.Path.{_≡_};
 ghost use Prim.Native.Nat.{_/_};
 ghost use lib.ListN.{length};
-ghost use Rattle.values.specs.Values.{listOctets};
+ghost use Rattle.values.specs.Values.{listOctets, valuesIn};
 ghost use Rattle.table.specs.Rules.{Obeys};
 ghost use Rattle.table.specs.Root.{root};
 ghost use Rattle.encoding.specs.Reading.{readOutcome, readValues};
-ghost use Rattle.encoding.specs.Calls.{readCall, valuesAfter, filled};
+ghost use Rattle.encoding.specs.Writing.{writeOutcome};
+ghost use Rattle.encoding.specs.Calls.{readCall, valuesAfter, filled, writeCall, outputAfter};
+ghost use Rattle.writer.specs.Writes.{listIn};
 
 // Reads all lent octets as one message into the value slice, under a table that is known to pass, whose root is at an offset.
 pub fn read_known(table: &[u8], at: usize, message: &[u8], values: &mut [i64]) -> Answer
@@ -54,4 +56,32 @@ pub fn read_packed(table: &[u8], message: &[u8], packed: &mut [u8]) -> Answer
     let kept = reading::kept_count(answer);
     values::clear_octets(packed, kept * 8);
     answer
+}
+
+// Writes a list under a lent table into the output.
+pub fn write(table: &[u8], values: &[i64], output: &mut [u8]) -> Answer
+    ensures { λ r. ⌜ (r ≡ writeCall (now (table .entry)) (now (values .entry)) (length (now (output .entry)))) × (now (output .exit) ≡ outputAfter (length (now (output .entry))) (writeOutcome (now (table .entry)) (now (values .entry)) (length (now (output .entry))))) ⌝ }
+{
+    let none = [0u8; 0];
+    write_lent(table, values, &none, output)
+}
+
+// The same with the values as octets, eight for each.
+pub fn write_packed(table: &[u8], packed: &[u8], output: &mut [u8]) -> Answer
+    ensures { λ r. ⌜ (r ≡ writeCall (now (table .entry)) (valuesIn (now (packed .entry))) (length (now (output .entry)))) × (now (output .exit) ≡ outputAfter (length (now (output .entry))) (writeOutcome (now (table .entry)) (valuesIn (now (packed .entry))) (length (now (output .entry))))) ⌝ }
+{
+    let none = [0i64; 0];
+    write_lent(table, &none, packed, output)
+}
+
+// A list in either slice under a lent table.
+fn write_lent(table: &[u8], values: &[i64], packed: &[u8], output: &mut [u8]) -> Answer
+    ensures { λ r. ⌜ (r ≡ writeCall (now (table .entry)) (listIn (now (values .entry)) (now (packed .entry))) (length (now (output .entry)))) × (now (output .exit) ≡ outputAfter (length (now (output .entry))) (writeOutcome (now (table .entry)) (listIn (now (values .entry)) (now (packed .entry))) (length (now (output .entry))))) ⌝ }
+{
+    let verdict = table::check(table);
+    let Answer::Accepted(_) = verdict else {
+        values::clear_octets(output, 0);
+        return verdict;
+    };
+    writing::write_known(table, table::root(table), values, packed, output)
 }

@@ -6,7 +6,6 @@ use bits::Fetched;
 use bits::OctetSize;
 use reader::Cursor;
 use reader::Step;
-
 ghost use mathlib.Core.Path.{_≡_};
 ghost use Prim.Native.Nat.{_+_, _*_, _≤_, _<_};
 ghost use lib.ListN.{length, set};
@@ -50,11 +49,21 @@ fn refused(step: Step) -> Answer
 }
 
 // A message that isn't empty, under a passed table whose root is at an offset: the root, then the padding.
-pub fn read_message(table: &[u8], at: usize, message: &[u8], values: &mut [i64], packed: &mut [u8], room: usize) -> Answer
+pub fn read_message(
+    table: &[u8],
+    at: usize,
+    message: &[u8],
+    values: &mut [i64],
+    packed: &mut [u8],
+    room: usize,
+) -> Answer
     requires { ⌜ Obeys (now table) × (at ≡ root (now table)) × (0 < length (now message)) × (length (now message) ≤ 65535) ⌝ }
     ensures { λ r. ⌜ (r ≡ readAnswer (decode (asks (now (table .entry))) (now (message .entry)) room)) × KeptBy set (decode (asks (now (table .entry))) (now (message .entry)) room) (now (values .entry)) (now (values .exit)) × KeptBy setValue (decode (asks (now (table .entry))) (now (message .entry)) room) (now (packed .entry)) (now (packed .exit)) ⌝ }
 {
-    let start = Cursor { place: BitPlace(0), count: 0 };
+    let start = Cursor {
+        place: BitPlace(0),
+        count: 0,
+    };
     let step = reader::read_row(table, at, message, values, packed, room, start);
     let Step::Past(end) = step else {
         return refused(step);
@@ -63,7 +72,14 @@ pub fn read_message(table: &[u8], at: usize, message: &[u8], values: &mut [i64],
 }
 
 // Any octets under a passed table whose root is at an offset: 13, then 2 where there are none, then the message.
-pub fn read_passed(table: &[u8], at: usize, message: &[u8], values: &mut [i64], packed: &mut [u8], room: usize) -> Answer
+pub fn read_passed(
+    table: &[u8],
+    at: usize,
+    message: &[u8],
+    values: &mut [i64],
+    packed: &mut [u8],
+    room: usize,
+) -> Answer
     requires { ⌜ Obeys (now table) × (at ≡ root (now table)) ⌝ }
     ensures { λ r. ⌜ (r ≡ readAnswer (messageOutcome (now (table .entry)) (now (message .entry)) room)) × KeptBy set (messageOutcome (now (table .entry)) (now (message .entry)) room) (now (values .entry)) (now (values .exit)) × KeptBy setValue (messageOutcome (now (table .entry)) (now (message .entry)) room) (now (packed .entry)) (now (packed .exit)) ⌝ }
 {

@@ -70,16 +70,17 @@ module _ (t : List ℕ) where
   pub demand3 : Demand3 t
   demand3 = record {
     checks = (λ e. passes-exactly t .0 (checked-passed (verdict t) .0 e), λ h. checked-passed (verdict t) .1 (passes h));
-    accepts = λ h s m room.
-      ((λ x. let y = accepted-outcome (readOutcome t s room) (x .0) (x .1) in
-        (y .0, decode-stands (asks t) s room (y .0) (y .1) m (sym (read-passed h s m room) ∙ y .2))),
-       (λ x. (_, ap readAnswer (read-passed h s m room ∙ stands-decode (asks t) s room (x .0) (x .1)))));
+    accepts = λ h s m room. (
+      (λ x. let y = accepted-outcome (readOutcome t s room) (x .0) (x .1) in
+          (y .0, decode-stands (asks t) s room (y .0) (y .1) m (sym (read-passed h s m room) ∙ y .2))),
+      (λ x. (_, ap readAnswer (read-passed h s m room ∙ stands-decode (asks t) s room (x .0) (x .1)))),
+    );
     one = λ s room vs ws a b. one-list (asks t) vs ws (a .allowed) (b .allowed) (a .encodes ∙ sym (b .encodes));
     comes = λ h s m room vs a.
-      let e = read-passed h s m room ∙ stands-decode (asks t) s room vs a in
-      (ap readAnswer e, ap (valuesAfter room) e);
+        let e = read-passed h s m room ∙ stands-decode (asks t) s room vs a in
+        (ap readAnswer e, ap (valuesAfter room) e);
     returns = λ h s m room vs a cap l.
-      let e = write-passed h vs cap ∙ stands-encode (asks t) s room vs m a cap l in
-      (ap writeAnswer e, ap (outputAfter cap) e);
-    apart = λ s s′ room room′ vs a b. sym (a .encodes) ∙ b .encodes
+        let e = write-passed h vs cap ∙ stands-encode (asks t) s room vs m a cap l in
+        (ap writeAnswer e, ap (outputAfter cap) e);
+    apart = λ s s′ room room′ vs a b. sym (a .encodes) ∙ b .encodes;
   }

@@ -2,5 +2,6 @@ pub mod ReadItems
 pub mod Messages
 pub mod Written
 pub mod Walks
+pub mod Spells
 pub mod RowItems
 pub mod Demand3

@@ -39,10 +39,15 @@ pub decode-complete : (p : Items) (vs : List ℤ) (room : ℕ) → Allows p vs �
 decode-complete p vs room h l =
     let b = encodingBits p vs in
     let n = length-pack (size (length b)) (b ++ padding (length b)) in
-    rw (decode-close p (encoding p vs) room (omega arith),
-        unpack-pack (size (length b)) (b ++ padding (length b)) (length-padded b),
-        read-complete p vs (padding (length b)) room 0 h l, zero-add, n,
-        eq-eqb (size (length b)) (size (length b)) refl, allZero-replicate)
+    rw (
+      decode-close p (encoding p vs) room (omega arith),
+      unpack-pack (size (length b)) (b ++ padding (length b)) (length-padded b),
+      read-complete p vs (padding (length b)) room 0 h l,
+      zero-add,
+      n,
+      eq-eqb (size (length b)) (size (length b)) refl,
+      allZero-replicate,
+    )
 
 -- an accepted message
 pub record Accepted (p : Items) (s : List ℕ) (room : ℕ) (vs : List ℤ) (n : ℕ) : Type 0 where
@@ -77,10 +82,11 @@ decode-sound p (o ∷ os) room h vs n e = closeRead-sound p (o ∷ os) room h vs
 
 -- exactly the messages of the lists that are allowed and fit are accepted, with the list and its bits
 pub exact : (p : Items) (s : List ℕ) (room : ℕ) → ((i : ℕ) → getD s i 0 < 256) → (vs : List ℤ) (n : ℕ)
-  → (decode p s room ≡ accept vs n) ↔ Accepted p s room vs n
-exact p s room h vs n =
-    (decode-sound p s room h vs n,
-     λ a. rw (← (a .octets), a .taken) (decode-complete p vs room (a .allowed) (a .fits)))
+    → (decode p s room ≡ accept vs n) ↔ Accepted p s room vs n
+exact p s room h vs n = (
+  decode-sound p s room h vs n,
+  λ a. rw (← (a .octets), a .taken) (decode-complete p vs room (a .allowed) (a .fits)),
+)
 
 -- one list for each message, and one message for each list
 pub one-list : (p : Items) (vs ws : List ℤ) → Allows p vs → Allows p ws → encoding p vs ≡ encoding p ws → vs ≡ ws
@@ -92,5 +98,5 @@ one-list p vs ws hv hw e =
     cc
 
 pub one-message : (p : Items) (s t : List ℕ) (room room′ : ℕ) → ((i : ℕ) → getD s i 0 < 256) → ((i : ℕ) → getD t i 0 < 256) → (vs : List ℤ) (m n : ℕ)
-  → decode p s room ≡ accept vs m → decode p t room′ ≡ accept vs n → s ≡ t
+    → decode p s room ≡ accept vs m → decode p t room′ ≡ accept vs n → s ≡ t
 one-message p s t room room′ hs ht vs m n a b = sym (decode-sound p s room hs vs m a .octets) ∙ decode-sound p t room′ ht vs n b .octets

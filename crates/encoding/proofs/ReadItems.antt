@@ -17,14 +17,19 @@ use Rattle.encoding.specs.Items.{Items, stop, ask, _then_, Allows, encod
 use Rattle.encoding.specs.Reading.{Reading, done, stuck, prepend, readOne, readItems}
 
 pub read-complete : (p : Items) (vs : List ℤ) (r : List Bool) (room at : ℕ) → Allows p vs → length vs ≤ room
-  → readItems p (encodingBits p vs ++ r) room at ≡ done vs (at + length (encodingBits p vs)) r
+    → readItems p (encodingBits p vs ++ r) room at ≡ done vs (at + length (encodingBits p vs)) r
 read-complete stop [] r room at h l = rw (add-zero at)
 read-complete stop (v ∷ vs) r room at h l = absurd h
 read-complete (ask c k) [] r room at h l = absurd h
 read-complete (ask c k) (v ∷ vs) r zero at h l = absurd (omega arith)
 read-complete (ask c k) (v ∷ vs) r (suc room) at h l =
-    rw (append-assoc, decodeItem-complete c v (encodingBits (k v) vs ++ r) (h .0), read-complete (k v) vs r room (at + length (valueBits c v)) (h .1) (omega arith),
-        length-append, add-assoc)
+    rw (
+      append-assoc,
+      decodeItem-complete c v (encodingBits (k v) vs ++ r) (h .0),
+      read-complete (k v) vs r room (at + length (valueBits c v)) (h .1) (omega arith),
+      length-append,
+      add-assoc,
+    )
 
 pub record ReadSound (p : Items) (b : List Bool) (room at : ℕ) (vs : List ℤ) (end : ℕ) (r : List Bool) : Type 0 where
   pub allowed : Allows p vs
@@ -38,9 +43,9 @@ prepended us (done ws m s) vs n r e = (ws, cc, cc)
 prepended us (stuck m at) vs n r e = ([], cc, cc)
 
 module _ (c : Code) (k : ℤ → Items) (b : List Bool) (at : ℕ)
-  (ih : (v : ℤ) (b : List Bool) (room at : ℕ) (vs : List ℤ) (n : ℕ) (r : List Bool) → readItems (k v) b room at ≡ done vs n r → ReadSound (k v) b room at vs n r) where
+    (ih : (v : ℤ) (b : List Bool) (room at : ℕ) (vs : List ℤ) (n : ℕ) (r : List Bool) → readItems (k v) b room at ≡ done vs n r → ReadSound (k v) b room at vs n r) where
   sound-ask : (g : Got ℤ) → decodeItem c b ≡ g → (room : ℕ) (vs : List ℤ) (n : ℕ) (r : List Bool)
-    → readOne at g room (λ v b′ room′. readItems (k v) b′ room′ (at + length (valueBits c v))) ≡ done vs n r → ReadSound (ask c k) b room at vs n r
+      → readOne at g room (λ v b′ room′. readItems (k v) b′ room′ (at + length (valueBits c v))) ≡ done vs n r → ReadSound (ask c k) b room at vs n r
   sound-ask (bad m) q room vs n r e = let z : _≡_ {A = ℕ} 0 1 = cc in absurd (omega arith)
   sound-ask (got v s) q zero vs n r e = let z : _≡_ {A = ℕ} 0 1 = cc in absurd (omega arith)
   sound-ask (got v s) q (suc room) vs n r e =
@@ -51,7 +56,7 @@ module _ (c : Code) (k : ℤ → Items) (b : List Bool) (at : ℕ)
         allowed = (d .0, y .allowed);
         spelt = d .1 ∙ ap (valueBits c v ++_) (y .spelt) ∙ sym (append-assoc (valueBits c v) (encodingBits (k v) (x .0)) r);
         fits = omega (arith, y .fits);
-        ends = rw length-append (omega (arith, y .ends))
+        ends = rw length-append (omega (arith, y .ends));
       })
 
 pub read-sound : (p : Items) (b : List Bool) (room at : ℕ) (vs : List ℤ) (n : ℕ) (r : List Bool) → readItems p b room at ≡ done vs n r → ReadSound p b room at vs n r
@@ -93,8 +98,8 @@ read-then stop q b room at = rw (prepend-nil, sub-zero)
 read-then (ask c k) q b room at = go (decodeItem c b) room (λ v. read-then (k v) q)
   where
     go : (g : Got ℤ) (room : ℕ) → ((v : ℤ) (b : List Bool) (room at : ℕ) → readItems (k v then q) b room at ≡ bind room (readItems (k v) b room at) (readItems q))
-      → readOne at g room (λ v b′ room′. readItems (k v then q) b′ room′ (at + length (valueBits c v)))
-      ≡ bind room (readOne at g room (λ v b′ room′. readItems (k v) b′ room′ (at + length (valueBits c v)))) (readItems q)
+        → readOne at g room (λ v b′ room′. readItems (k v then q) b′ room′ (at + length (valueBits c v)))
+        ≡ bind room (readOne at g room (λ v b′ room′. readItems (k v) b′ room′ (at + length (valueBits c v)))) (readItems q)
     go (bad n) room ih = refl
     go (got v s) zero ih = refl
     go (got v s) (suc room) ih = rw (ih v s room (at + length (valueBits c v)), bind-prepend)

@@ -61,7 +61,7 @@ module _ (t : List ℕ) (o : ℕ) where
   items-record rs fs e h = items-is (Record rs fs) e ∙ ap (presence fs) (fun-ext (fields-earlier rs h))
 
   pub items-choice : (rs : List ℕ) → rowAt t o ≡ Choice rs
-    → items t o ≡ ask (index (map there rs)) (λ v. earlier stop o (items t) (getD rs (natural v) 65535))
+      → items t o ≡ ask (index (map there rs)) (λ v. earlier stop o (items t) (getD rs (natural v) 65535))
   unfolding rowItems
   items-choice rs e = items-is (Choice rs) e
 

@@ -33,12 +33,12 @@ module _ (c : Code) (k : ℤ → Items) (b : List Bool) (at : ℕ) where
   walk-full e = rw e
 
   pub walk-got : (room : ℕ) (v : ℤ) (r : List Bool) → decodeItem c (drop at b) ≡ got v r
-    → walk (ask c k) b (suc room) at ≡ after (v ∷ []) (walk (k v) b room (at + length (valueBits c v)))
+      → walk (ask c k) b (suc room) at ≡ after (v ∷ []) (walk (k v) b room (at + length (valueBits c v)))
   unfolding walk
   walk-got room v r e =
       let s = decodeItem-sound c (drop at b) e .1 in
       let d : drop (at + length (valueBits c v)) b ≡ r =
-          sym (drop-drop (length (valueBits c v)) at b) ∙ ap (drop (length (valueBits c v))) s ∙ drop-at (valueBits c v) r (length (valueBits c v)) refl in
+      sym (drop-drop (length (valueBits c v)) at b) ∙ ap (drop (length (valueBits c v))) s ∙ drop-at (valueBits c v) r (length (valueBits c v)) refl in
       rw (e, d) (forget-prepend (v ∷ []) (readItems (k v) r room (at + length (valueBits c v))))
 
 pub walk-then : (p q : Items) (b : List Bool) (room at : ℕ) → walk (p then q) b room at ≡ next room (walk p b room at) (walk q b)
@@ -50,7 +50,6 @@ walk-then p q b room at = ap forget (read-then p q (drop at b) room at) ∙ go (
     go (done vs at′ r) e =
         let s = read-sound p (drop at b) room at vs at′ r e in
         let d : drop at′ b ≡ r =
-            ap (λ n. drop n b) (s .ends) ∙ sym (drop-drop (length (encodingBits p vs)) at b) ∙ ap (drop (length (encodingBits p vs))) (s .spelt)
-            ∙ drop-at (encodingBits p vs) r (length (encodingBits p vs)) refl in
+        ap (λ n. drop n b) (s .ends) ∙ sym (drop-drop (length (encodingBits p vs)) at b) ∙ ap (drop (length (encodingBits p vs))) (s .spelt)
+        ∙ drop-at (encodingBits p vs) r (length (encodingBits p vs)) refl in
         rw d (forget-prepend vs (readItems q r (room - length vs) at′))
-

@@ -58,19 +58,19 @@ write-sound (ask c k) (v ∷ vs) room i b ws e =
       split = ap (v ∷_) (w .split);
       allowed = (x .0, w .allowed);
       spelt = z .2 ∙ ap (valueBits c v ++_) (w .spelt);
-      fits = rw (z .2, length-append) (omega (arith, w .fits, leb-true (length (valueBits c v)) room (y .0)))
+      fits = rw (z .2, length-append) (omega (arith, w .fits, leb-true (length (valueBits c v)) room (y .0)));
     }
 
 pub encode-complete : (p : Items) (vs : List ℤ) (cap : ℕ) → Allows p vs → size (length (encodingBits p vs)) ≤ min cap 65535 → encode p vs cap ≡ written (encoding p vs)
 encode-complete p vs zero h l = absurd (omega arith)
 encode-complete p vs (suc cap) h l =
     let w : writeItems p vs (8 * min (suc cap) 65535) 0 ≡ spelt (encodingBits p vs) [] =
-        rw append-nil at (write-complete p vs [] (8 * min (suc cap) 65535) 0 h (omega arith)) in
+    rw append-nil at (write-complete p vs [] (8 * min (suc cap) 65535) 0 h (omega arith)) in
     rw w
 
 -- what was read is written back
 pub written-back : (p : Items) (s : List ℕ) (room : ℕ) → ((i : ℕ) → getD s i 0 < 256) → length s ≤ 65535 → (vs : List ℤ) (n : ℕ) → decode p s room ≡ accept vs n
-  → (cap : ℕ) → length s ≤ cap → encode p vs cap ≡ written s
+    → (cap : ℕ) → length s ≤ cap → encode p vs cap ≡ written s
 written-back p s room h m vs n e cap l =
     let a = decode-sound p s room h vs n e in
     let z : length s ≡ size (length (encodingBits p vs)) = ap length (sym (a .octets)) ∙ length-pack _ _ in

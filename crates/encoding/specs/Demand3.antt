@@ -36,14 +36,14 @@ pub record Demand3 (t : List ℕ) : Type 1 where
   pub checks : (checked (verdict t) ≡ accepted 0 0 0) ↔ Obeys t
   -- under a passed table, reading accepts exactly when some such list stands for the octets
   pub accepts : Obeys t → (s : List ℕ) → Message s → (room : ℕ)
-    → ((counts : Counts) × (readCall t s room ≡ Accepted counts)) ↔ ((vs : List ℤ) × Stands (asks t) s room vs)
+      → ((counts : Counts) × (readCall t s room ≡ Accepted counts)) ↔ ((vs : List ℤ) × Stands (asks t) s room vs)
   -- there is only one such list
   pub one : (s : List ℕ) (room : ℕ) (vs ws : List ℤ) → Stands (asks t) s room vs → Stands (asks t) s room ws → vs ≡ ws
   -- it comes back, followed by zeros, with its length and its bits as counts
   pub comes : Obeys t → (s : List ℕ) → Message s → (room : ℕ) (vs : List ℤ) → Stands (asks t) s room vs
-    → (readCall t s room ≡ accepted (length vs) (length (encodingBits (asks t) vs)) 0) × (valuesAfter room (readOutcome t s room) ≡ filled (pos 0) room vs)
+      → (readCall t s room ≡ accepted (length vs) (length (encodingBits (asks t) vs)) 0) × (valuesAfter room (readOutcome t s room) ≡ filled (pos 0) room vs)
   -- written into any slice long enough it gives the same octets, then zeros, and the message's length
   pub returns : Obeys t → (s : List ℕ) → Message s → (room : ℕ) (vs : List ℤ) → Stands (asks t) s room vs → (cap : ℕ) → length s ≤ cap
-    → (writeCall t vs cap ≡ accepted 0 0 (length s)) × (outputAfter cap (writeOutcome t vs cap) ≡ filled 0 cap s)
+      → (writeCall t vs cap ≡ accepted 0 0 (length s)) × (outputAfter cap (writeOutcome t vs cap) ≡ filled 0 cap s)
   -- two messages never give one list, whatever slices they were read into
   pub apart : (s s′ : List ℕ) (room room′ : ℕ) (vs : List ℤ) → Stands (asks t) s room vs → Stands (asks t) s′ room′ vs → s ≡ s′

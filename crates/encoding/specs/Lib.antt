@@ -4,5 +4,6 @@ pub mod Encoding
 pub mod Reading
 pub mod Walk
 pub mod Writing
+pub mod Spell
 pub mod Calls
 pub mod Demand3

@@ -1,25 +1,22 @@
 -- Demand 3 holds of an LM by name.
 -- Assumes nothing.
-use Prim.Native.Nat.{ℕ, zero, suc, _+_, _-_, _*_, _≤_, _<_}
+use Prim.Native.Nat.{ℕ, _≤_}
 use mathlib.Core.Bool.{Bool, true, false}
-use mathlib.Core.Path.{_≡_, refl, sym, ap, ap₂, _∙_}
-use mathlib.Core.Logic.{_↔_}
-use mathlib.Core.List.{List, [], _∷_, _++_, append-assoc}
+use mathlib.Core.Path.{_≡_, refl, sym, ap, _∙_}
+use mathlib.Core.List.{List, _∷_, _++_, append-assoc}
 use native.Mathlib.Omega.{arith}
 use lib.Dec.{leb, eqb}
 use lib.IntN.{ℤ, pos}
 use lib.ListN.{length, getD, length-append, length-replicate}
 use borrow.Author.Tests.{le-leb, eqb-true, eq-eqb}
-use Rattle.bits.specs.Bits.{bitsOf, unpack, pack}
+use Rattle.bits.specs.Bits.{bitsOf, unpack}
 use Rattle.bits.proofs.Bits.{length-pack, unpack-pack}
-use Rattle.answer.specs.Numbers.{accepted}
-use Rattle.answer.specs.declared.Answer.the-variants.{Accepted}
 use Rattle.table.specs.Verdict.{checked}
-use Rattle.encoding.specs.Items.{Allows, encodingBits}
+use Rattle.encoding.specs.Items.{encodingBits}
 use Rattle.encoding.specs.Rows.{asks}
-use Rattle.encoding.specs.Encoding.{size, padding, padded, encoding}
-use Rattle.encoding.specs.Reading.{ReadOutcome, accept, refuse, decode, readAnswer}
-use Rattle.encoding.specs.Writing.{encode, written, writeAnswer}
+use Rattle.encoding.specs.Encoding.{size, padding, padded}
+use Rattle.encoding.specs.Reading.{ReadOutcome, accept, readAnswer}
+use Rattle.encoding.specs.Writing.{written, writeAnswer}
 use Rattle.encoding.specs.Calls.{valuesAfter, outputAfter}
 use Rattle.encoding.specs.Demand3.{Message, Stands}
 use Rattle.encoding.proofs.Messages.{one-list}
@@ -42,17 +39,17 @@ module _ (s : List ℕ) (room : ℕ) (vs : List ℤ) (stands : Stands (asks lm) 
   not-empty : 1 ≤ length s
   not-empty = omega (arith, ap length (sym (stands .encodes)) ∙ length-pack _ _)
 
-  spelt : unpack s ≡ bitsOf 4 (firsts .subtype) ++ (bitsOf 1 (firsts .extended) ++ (bitsOf 3 (firsts .version) ++ (firsts .tail ++ padding (length (encodingBits (asks lm) vs)))))
-  spelt =
+  bits : unpack s ≡ bitsOf 4 (firsts .subtype) ++ (firsts .bit ∷ bitsOf 3 (firsts .version) ++ (firsts .bits-after ++ padding (length (encodingBits (asks lm) vs))))
+  bits =
       let b = encodingBits (asks lm) vs in
       let e : unpack s ≡ b ++ padding (length b) = ap unpack (sym (stands .encodes)) ∙ unpack-padded b in
-      e ∙ ap (_++ padding (length b)) (firsts .spelt) ∙ simp append-assoc
+      e ∙ ap (_++ padding (length b)) (firsts .bits) ∙ simp append-assoc
 
   subtype : lmSubtype s ≡ firsts .subtype
-  subtype = subtype-is s _ _ _ _ spelt (omega (arith, firsts .subtype-most))
+  subtype = subtype-is s _ _ _ _ bits (omega (arith, firsts .subtype-most))
 
   version : lmVersion s ≡ firsts .version
-  version = version-is s _ _ _ _ spelt (omega (arith, firsts .version-most))
+  version = version-is s _ _ _ _ bits (omega (arith, firsts .version-most))
 
   third : getD vs 2 (pos 0) ≡ pos (lmVersion s)
   third = ap (λ vs. getD vs 2 (pos 0)) (firsts .values) ∙ ap pos (sym version)
@@ -72,7 +69,7 @@ readIf-inv true n p x e = (refl, e)
 readIf-inv false n p x e = (cc, cc)
 
 module _ (s : List ℕ) (message : Message s) (room : ℕ) (vs : List ℤ) where
-  stands-read : StandsLm s room vs → readLmOutcome s room ≡ accept vs (length (encodingBits (asks lm) vs))
+  pub stands-read : StandsLm s room vs → readLmOutcome s room ≡ accept vs (length (encodingBits (asks lm) vs))
   unfolding readLmOutcome
   stands-read a =
       let q : pos (lmVersion s) ≡ pos 3 = sym (third s room vs (a .stands)) ∙ a .version in
@@ -85,7 +82,7 @@ module _ (s : List ℕ) (message : Message s) (room : ℕ) (vs : List ℤ) where
       )
       (stands-decode (asks lm) s room vs (a .stands))
 
-  read-stands : (n : ℕ) → readLmOutcome s room ≡ accept vs n → StandsLm s room vs
+  pub read-stands : (n : ℕ) → readLmOutcome s room ≡ accept vs n → StandsLm s room vs
   unfolding readLmOutcome
   read-stands n e =
       let c = readIf-inv (leb (length s) 65535) _ 0 _ e in
@@ -95,7 +92,7 @@ module _ (s : List ℕ) (message : Message s) (room : ℕ) (vs : List ℤ) where
       let a = decode-stands (asks lm) s room vs n message (g .1) in
       record { stands = a; version = third s room vs a ∙ ap pos (eqb-true (lmVersion s) 3 (f .0)) }
 
-  stands-write : StandsLm s room vs → (cap : ℕ) → length s ≤ cap → writeLmOutcome vs cap ≡ written s
+  pub stands-write : StandsLm s room vs → (cap : ℕ) → length s ≤ cap → writeLmOutcome vs cap ≡ written s
   unfolding writeLmOutcome
   stands-write a cap l =
       rw (le-leb 3 (length vs) (three-values s room vs (a .stands)), a .version, zeroth s room vs (a .stands), le-leb (lmSubtype s) 2 (subtype-most s room vs (a .stands)))

@@ -3,8 +3,7 @@
 use Prim.Native.Nat.{ℕ}
 use mathlib.Core.Path.{_≡_}
 use mathlib.Core.List.{List, [], _∷_, map}
-use lib.IntN.{ℤ, pos, negsuc}
-use Rattle.answer.specs.Numbers.{messageEnds, aboveSpan, notPadding, wrongVersion, wrongSubtype}
+use lib.IntN.{pos, negsuc}
 use Rattle.encoding.specs.Reading.{ReadOutcome, accept, refuse, readOutcome}
 use Rattle.lm.specs.ByName.{readLmOutcome}
 
@@ -26,37 +25,37 @@ pub record Case : Type 0 where
 
 -- a table of one number row, 0 to 200
 abbrev pub upTo200 : List ℕ
-upTo200 = 12 ∷ 0 ∷ 1 ∷ 0 ∷ 0 ∷ 0 ∷ 0 ∷ 0 ∷ 200 ∷ 0 ∷ 0 ∷ 0 ∷ []
+upTo200 = 0x0c ∷ 0x00 ∷ 0x01 ∷ 0x00 ∷ 0x00 ∷ 0x00 ∷ 0x00 ∷ 0x00 ∷ 0xc8 ∷ 0x00 ∷ 0x00 ∷ 0x00 ∷ []
 
 -- one of -128 to 127
 abbrev pub signedOctet : List ℕ
-signedOctet = 12 ∷ 0 ∷ 1 ∷ 0 ∷ 128 ∷ 255 ∷ 255 ∷ 255 ∷ 255 ∷ 0 ∷ 0 ∷ 0 ∷ []
+signedOctet = 0x0c ∷ 0x00 ∷ 0x01 ∷ 0x00 ∷ 0x80 ∷ 0xff ∷ 0xff ∷ 0xff ∷ 0xff ∷ 0x00 ∷ 0x00 ∷ 0x00 ∷ []
 
 -- one of 5 to 5
 abbrev pub onlyFive : List ℕ
-onlyFive = 12 ∷ 0 ∷ 1 ∷ 0 ∷ 5 ∷ 0 ∷ 0 ∷ 0 ∷ 0 ∷ 0 ∷ 0 ∷ 0 ∷ []
+onlyFive = 0x0c ∷ 0x00 ∷ 0x01 ∷ 0x00 ∷ 0x05 ∷ 0x00 ∷ 0x00 ∷ 0x00 ∷ 0x00 ∷ 0x00 ∷ 0x00 ∷ 0x00 ∷ []
 
 unfoldable pub cases : List Case
 cases =
-    -- P1: 03 00 20 02 48 69
-    record { asked = anLm (3 ∷ 0 ∷ 32 ∷ 2 ∷ 72 ∷ 105 ∷ []); gives = accept (pos 0 ∷ pos 0 ∷ pos 3 ∷ pos 0 ∷ pos 0 ∷ pos 32 ∷ pos 2 ∷ pos 72 ∷ pos 105 ∷ []) 48 }
-    -- P2: 23 00 00 07 02 00 01 00 02 00
-    ∷ record { asked = anLm (35 ∷ 0 ∷ 0 ∷ 7 ∷ 2 ∷ 0 ∷ 1 ∷ 0 ∷ 2 ∷ 0 ∷ []); gives = accept (pos 2 ∷ pos 0 ∷ pos 3 ∷ pos 1 ∷ pos 3 ∷ pos 1 ∷ pos 0 ∷ pos 1 ∷ pos 2 ∷ pos 0 ∷ []) 80 }
-    -- P3: 0B 01 0F 01 AC 00 00 00
-    ∷ record { asked = anLm (11 ∷ 1 ∷ 15 ∷ 1 ∷ 172 ∷ 0 ∷ 0 ∷ 0 ∷ []); gives = accept (pos 0 ∷ pos 1 ∷ pos 3 ∷ pos 1 ∷ pos 15 ∷ pos 1 ∷ pos 172 ∷ pos 0 ∷ pos 0 ∷ pos 0 ∷ pos 0 ∷ []) 64 }
-    -- P7: C8, C9
-    ∷ record { asked = under upTo200 (200 ∷ []); gives = accept (pos 200 ∷ []) 8 }
-    ∷ record { asked = under upTo200 (201 ∷ []); gives = refuse aboveSpan 0 }
-    -- P8: 00, FF
-    ∷ record { asked = under signedOctet (0 ∷ []); gives = accept (negsuc 127 ∷ []) 8 }
-    ∷ record { asked = under signedOctet (255 ∷ []); gives = accept (pos 127 ∷ []) 8 }
-    -- P9: 00, 01, no octets
-    ∷ record { asked = under onlyFive (0 ∷ []); gives = accept (pos 5 ∷ []) 0 }
-    ∷ record { asked = under onlyFive (1 ∷ []); gives = refuse notPadding 0 }
-    ∷ record { asked = under onlyFive []; gives = refuse messageEnds 0 }
-    -- P10: 04, 33
-    ∷ record { asked = anLm (4 ∷ []); gives = refuse wrongVersion 5 }
-    ∷ record { asked = anLm (51 ∷ []); gives = refuse wrongSubtype 0 }
+    -- P1
+    record { asked = anLm (0x03 ∷ 0x00 ∷ 0x20 ∷ 0x02 ∷ 0x48 ∷ 0x69 ∷ []); gives = accept (pos 0 ∷ pos 0 ∷ pos 3 ∷ pos 0 ∷ pos 0 ∷ pos 32 ∷ pos 2 ∷ pos 72 ∷ pos 105 ∷ []) 48 }
+    -- P2
+    ∷ record { asked = anLm (0x23 ∷ 0x00 ∷ 0x00 ∷ 0x07 ∷ 0x02 ∷ 0x00 ∷ 0x01 ∷ 0x00 ∷ 0x02 ∷ 0x00 ∷ []); gives = accept (pos 2 ∷ pos 0 ∷ pos 3 ∷ pos 1 ∷ pos 3 ∷ pos 1 ∷ pos 0 ∷ pos 1 ∷ pos 2 ∷ pos 0 ∷ []) 80 }
+    -- P3
+    ∷ record { asked = anLm (0x0b ∷ 0x01 ∷ 0x0f ∷ 0x01 ∷ 0xac ∷ 0x00 ∷ 0x00 ∷ 0x00 ∷ []); gives = accept (pos 0 ∷ pos 1 ∷ pos 3 ∷ pos 1 ∷ pos 15 ∷ pos 1 ∷ pos 172 ∷ pos 0 ∷ pos 0 ∷ pos 0 ∷ pos 0 ∷ []) 64 }
+    -- P7
+    ∷ record { asked = under upTo200 (0xc8 ∷ []); gives = accept (pos 200 ∷ []) 8 }
+    ∷ record { asked = under upTo200 (0xc9 ∷ []); gives = refuse 3 0 }
+    -- P8, -128 being negsuc 127
+    ∷ record { asked = under signedOctet (0x00 ∷ []); gives = accept (negsuc 127 ∷ []) 8 }
+    ∷ record { asked = under signedOctet (0xff ∷ []); gives = accept (pos 127 ∷ []) 8 }
+    -- P9
+    ∷ record { asked = under onlyFive (0x00 ∷ []); gives = accept (pos 5 ∷ []) 0 }
+    ∷ record { asked = under onlyFive (0x01 ∷ []); gives = refuse 9 0 }
+    ∷ record { asked = under onlyFive []; gives = refuse 2 0 }
+    -- P10
+    ∷ record { asked = anLm (0x04 ∷ []); gives = refuse 10 5 }
+    ∷ record { asked = anLm (0x33 ∷ []); gives = refuse 11 0 }
     ∷ []
 
 -- the definitions give every case its outcome

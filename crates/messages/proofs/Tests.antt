@@ -51,7 +51,7 @@ module _ (s : List ℕ) where
 
 -- ── what they leave ──
 
-answerIf-accepted : (t : Bool) (n p : ℕ) (x : Answer) (counts : Counts) → answerIf t n p x ≡ Accepted counts → (t ≡ true) × (x ≡ Accepted counts)
+pub answerIf-accepted : (t : Bool) (n p : ℕ) (x : Answer) (counts : Counts) → answerIf t n p x ≡ Accepted counts → (t ≡ true) × (x ≡ Accepted counts)
 answerIf-accepted true n p x counts e = (refl, e)
 answerIf-accepted false n p x counts e = (cc, cc)
 
@@ -71,7 +71,7 @@ fine s room counts e =
     record {
       most = leb-true (length s) 65535 (a .0);
       some = leb-true 1 (length s) (b .0);
-      outcome = rw (a .0, b .0, c .0, d .0)
+      outcome = rw (a .0, b .0, c .0, d .0);
     }
 
 -- what one of them refused has that refusal
@@ -81,8 +81,9 @@ unfit s room refusal e = go (leb (length s) 65535) (leb 1 (length s)) (eqb (lmVe
   where
     same : (n p : ℕ) → refused n p ≡ Refused refusal → refuse n p ≡ refuse (refusal .number) (refusal .place)
     same n p e = let r : record { number = n; place = p } ≡ refusal = cc in ap (λ (x : Refusal). refuse (x .number) (x .place)) r
+
     go : (a b c d : Bool) → answerIf a 13 0 (answerIf b 2 0 (answerIf c 10 5 (answerIf d 11 0 (accepted 0 0 0)))) ≡ Refused refusal
-      → readIf a 13 0 (readIf b 2 0 (readIf c 10 5 (readIf d 11 0 (decode (asks lm) s room)))) ≡ refuse (refusal .number) (refusal .place)
+        → readIf a 13 0 (readIf b 2 0 (readIf c 10 5 (readIf d 11 0 (decode (asks lm) s room)))) ≡ refuse (refusal .number) (refusal .place)
     go false b c d e = same 13 0 e
     go true false c d e = same 2 0 e
     go true true false d e = same 10 5 e
@@ -97,6 +98,7 @@ lm-fits s room = go (leb (length s) 65535) (leb 1 (length s)) (eqb (lmVersion s)
     whole : (x : ReadOutcome) → decode (asks lm) s room ≡ x → length (readValues x) ≤ room
     whole (refuse n p) q = omega arith
     whole (accept vs n) q = decode-fits (asks lm) s room vs n q
+
     go : (a b c d : Bool) → length (readValues (readIf a 13 0 (readIf b 2 0 (readIf c 10 5 (readIf d 11 0 (decode (asks lm) s room)))))) ≤ room
     go false b c d = omega arith
     go true false c d = omega arith

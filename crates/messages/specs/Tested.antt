@@ -1,11 +1,13 @@
--- The tests before an LM's items, by themselves: what passes them is accepted and counts nothing.
+-- The tests before an LM's items and values, by themselves: what passes them is accepted and counts nothing.
 use Prim.Native.Nat.{ℕ}
 use mathlib.Core.Bool.{Bool, true, false}
 use mathlib.Core.List.{List}
 use lib.Dec.{leb, eqb}
-use lib.ListN.{length}
-use Rattle.answer.specs.Numbers.{messageEnds, wrongVersion, wrongSubtype, tooLong, accepted, refused}
+use lib.IntN.{ℤ, pos}
+use lib.ListN.{length, getD}
+use Rattle.answer.specs.Numbers.{messageEnds, wrongVersion, wrongSubtype, wrongValue, tooLong, accepted, refused}
 use Rattle.answer.specs.declared.Answer.{Answer}
+use Rattle.item.specs.Code.{ofNatural}
 use Rattle.lm.specs.ByName.{lmVersion, lmSubtype}
 
 abbrev pub answerIf : Bool → ℕ → ℕ → Answer → Answer
@@ -19,3 +21,11 @@ lmTested s =
     (answerIf (eqb (lmVersion s) 3) wrongVersion 5
     (answerIf (leb (lmSubtype s) 2) wrongSubtype 0
     (accepted 0 0 0))))
+
+-- the tests before an LM's values, by themselves
+unfoldable pub lmListTested : List ℤ → Answer
+lmListTested vs =
+    answerIf (leb 3 (length vs)) wrongValue (length vs)
+    (answerIf (ofNatural (λ n. eqb n 3) (getD vs 2 (pos 0))) wrongVersion 2
+    (answerIf (ofNatural (λ n. leb n 2) (getD vs 0 (pos 0))) wrongSubtype 0
+    (accepted 0 0 0)))

@@ -5,16 +5,16 @@ use answer::Refusal;
 use bits::BitPlace;
 use bits::Fetched;
 use bits::OctetSize;
-
 ghost use mathlib.Core.Path.{_≡_};
 ghost use lib.ListN.{length, set};
 ghost use Rattle.values.specs.Values.{setValue};
 ghost use Rattle.encoding.specs.Reading.{readOutcome, readAnswer};
-ghost use Rattle.encoding.specs.Calls.{readCall, valuesAfter};
+ghost use Rattle.encoding.specs.Writing.{writeOutcome};
+ghost use Rattle.encoding.specs.Calls.{readCall, valuesAfter, writeCall, outputAfter};
 ghost use Rattle.codec.specs.Kept.{KeptBy};
 ghost use Rattle.builtin.specs.Tables.{sam, srm};
-ghost use Rattle.lm.specs.ByName.{readLmOutcome, readLmCall};
-ghost use Rattle.messages.specs.Tested.{lmTested};
+ghost use Rattle.lm.specs.ByName.{readLmOutcome, readLmCall, writeLmOutcome, writeLmCall};
+ghost use Rattle.messages.specs.Tested.{lmTested, lmListTested};
 
 // The tests before an LM's items: 13, 2 where there are no octets, 10 on the version, 11 on the subtype. What passes them is
 // accepted, and counts nothing.
@@ -49,7 +49,14 @@ pub fn lm_message(message: &[u8], values: &mut [i64], packed: &mut [u8], room: u
     let Answer::Accepted(_) = tested else {
         return tested;
     };
-    codec::reading::read_message(&builtin::LM, builtin::LM_ROOT, message, values, packed, room)
+    codec::reading::read_message(
+        &builtin::LM,
+        builtin::LM_ROOT,
+        message,
+        values,
+        packed,
+        room,
+    )
 }
 
 // Reads an LM into the value slice.
@@ -76,4 +83,54 @@ pub fn read_srm(message: &[u8], values: &mut [i64]) -> Answer
     ensures { λ r. ⌜ (r ≡ readCall srm (now (message .entry)) (length (now (values .entry)))) × (now (values .exit) ≡ valuesAfter (length (now (values .entry))) (readOutcome srm (now (message .entry)) (length (now (values .entry))))) ⌝ }
 {
     codec::read_known(&builtin::SRM, builtin::SRM_ROOT, message, values)
+}
+
+// The tests before an LM's values: 12 on a list shorter than 3, 10 on the third value, 11 on the first. What passes them is
+// accepted, and counts nothing.
+fn lm_list_tested(values: &[i64]) -> Answer
+    ensures { λ r. ⌜ r ≡ lmListTested (now (values .entry)) ⌝ }
+{
+    if values.len() < 3 {
+        return Answer::refused(Refusal::WRONG_VALUE, values.len());
+    }
+    if values[2] != 3 {
+        return Answer::refused(Refusal::WRONG_VERSION, 2);
+    }
+    let subtype = values[0];
+    if subtype < 0 {
+        return Answer::refused(Refusal::WRONG_SUBTYPE, 0);
+    }
+    if 2 < subtype {
+        return Answer::refused(Refusal::WRONG_SUBTYPE, 0);
+    }
+    Answer::accepted(0, BitPlace(0), OctetSize(0))
+}
+
+// Writes an LM into the output.
+pub fn write_lm(values: &[i64], output: &mut [u8]) -> Answer
+    ensures { λ r. ⌜ (r ≡ writeLmCall (now (values .entry)) (length (now (output .entry)))) × (now (output .exit) ≡ outputAfter (length (now (output .entry))) (writeLmOutcome (now (values .entry)) (length (now (output .entry))))) ⌝ }
+{
+    let tested = lm_list_tested(values);
+    let Answer::Accepted(_) = tested else {
+        values::clear_octets(output, 0);
+        return tested;
+    };
+    let none = [0u8; 0];
+    codec::writing::write_known(&builtin::LM, builtin::LM_ROOT, values, &none, output)
+}
+
+// Writes a SAM into the output.
+pub fn write_sam(values: &[i64], output: &mut [u8]) -> Answer
+    ensures { λ r. ⌜ (r ≡ writeCall sam (now (values .entry)) (length (now (output .entry)))) × (now (output .exit) ≡ outputAfter (length (now (output .entry))) (writeOutcome sam (now (values .entry)) (length (now (output .entry))))) ⌝ }
+{
+    let none = [0u8; 0];
+    codec::writing::write_known(&builtin::SAM, builtin::SAM_ROOT, values, &none, output)
+}
+
+// Writes an SRM into the output.
+pub fn write_srm(values: &[i64], output: &mut [u8]) -> Answer
+    ensures { λ r. ⌜ (r ≡ writeCall srm (now (values .entry)) (length (now (output .entry)))) × (now (output .exit) ≡ outputAfter (length (now (output .entry))) (writeOutcome srm (now (values .entry)) (length (now (output .entry))))) ⌝ }
+{
+    let none = [0u8; 0];
+    codec::writing::write_known(&builtin::SRM, builtin::SRM_ROOT, values, &none, output)
 }

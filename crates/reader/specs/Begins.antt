@@ -1,34 +1,20 @@
 -- What the reader of a row leaves to be read once the row's own items are: the parts that it refers to.
 use Prim.Native.Nat.{ℕ, _+_, _/_, _%_, _<_, _^_}
-use mathlib.Core.Bool.{Bool, true, false}
+use mathlib.Core.Bool.{Bool}
 use mathlib.Core.Path.{_≡_}
 use mathlib.Core.List.{List, _∷_}
 use lib.Dec.{eqb}
 use lib.IntN.{ℤ}
-use Rattle.octets.specs.Numbers.{u16, u16s}
-use Rattle.bits.specs.Bits.{bitsOf}
+use Rattle.octets.specs.Numbers.{u16}
 use Rattle.table.specs.Rules.{Earlier}
 use Rattle.encoding.specs.Items.{Items, stop, times}
-use Rattle.encoding.specs.Rows.{presence, fields, items}
-use Rattle.reader.specs.declared.Cursor.{Cursor}
+use Rattle.encoding.specs.Rows.{presence, items}
+use Rattle.parts.specs.Parts.{markedFields}
 use Rattle.reader.specs.declared.Step.{Step}
 use Rattle.reader.specs.declared.Step.the-variants.{Past, Refused as StepRefused}
 use Rattle.reader.specs.declared.Begun.{Begun}
 use Rattle.reader.specs.declared.Begun.the-variants.{Done, Run, Branch, Fields, Refused}
 use Rattle.reader.specs.Reads.{State, stateAt, Reads, Continues}
-
--- the fields of the record at o, by their marks
-abbrev pub fieldsOf : List ℕ → ℕ → List Bool → Items
-fieldsOf t o = fields (items t) (u16s t (o + 6) 4 (u16 t (o + 4)))
-
--- those that a mask marks as present, the first field on top
-unfoldable pub markedFields : List ℕ → ℕ → ℕ → Items
-markedFields t o mask = fieldsOf t o (bitsOf (u16 t (o + 4)) mask)
-
--- a field, where it is present
-abbrev pub fieldIf : Bool → Items → Items
-fieldIf true p = p
-fieldIf false p = stop
 
 -- a step as the beginning of a row that asks for no more
 abbrev pub wholeOf : Step → Begun
@@ -49,7 +35,7 @@ Begins t o message room p from values packed (Refused refusal) = Reads message r
 abbrev pub Marks : ℕ → ℕ → List ℕ → ℕ → State → List ℤ → List ℕ → Begun → Type 0
 Marks flag mask message room from values packed (Fields marked to) =
     (marked / 2 ≡ mask) × ((flags : List ℕ) (k : List Bool → Items)
-      → Continues message room (presence (flag ∷ flags) k) from (presence flags (λ ps. k (eqb (marked % 2) 1 ∷ ps))) (stateAt to values packed))
+    → Continues message room (presence (flag ∷ flags) k) from (presence flags (λ ps. k (eqb (marked % 2) 1 ∷ ps))) (stateAt to values packed))
 Marks flag mask message room from values packed (Refused refusal) =
     (flags : List ℕ) (k : List Bool → Items) → Reads message room (presence (flag ∷ flags) k) from values packed (StepRefused refusal)
 Marks flag mask message room from values packed (Done to) = ⊥

@@ -1,9 +1,9 @@
 -- What the readers of rows are proved against: the walk of encoding's specs/Walk.antt, as the code answers it, with what the
 -- two lent slices then hold.
 use Prim.Native.Nat.{ℕ, _+_, _-_}
-use mathlib.Core.Bool.{Bool, cond}
+use mathlib.Core.Bool.{cond}
 use mathlib.Core.Path.{_≡_}
-use mathlib.Core.List.{List, []}
+use mathlib.Core.List.{List}
 use lib.Dec.{leb}
 use lib.IntN.{ℤ, pos}
 use lib.ListN.{length, set}

@@ -1,19 +1,16 @@
 // The items of a row that are its own: a number, a variable number, octets, the length of a counted run, the presence bits of
 // a record, the index of a choice. Each is read, and kept where there is room for its value.
-use answer::Refusal;
-use item::Item;
-use table::Row;
 use crate::Begun;
 use crate::Cursor;
 use crate::Step;
-
+use answer::Refusal;
+use item::Item;
+use table::Row;
 ghost use mathlib.Core.Path.{_≡_};
-ghost use mathlib.Core.Bool.{Bool, false};
-ghost use Prim.Native.Nat.{_+_, _-_, _*_, _/_, _%_, _<_, _≤_, _^_};
+ghost use Prim.Native.Nat.{_+_, _<_, _≤_};
 ghost use lib.IntN.{pos};
-ghost use lib.ListN.{length, getD, set};
+ghost use lib.ListN.{length, set};
 ghost use Rattle.octets.specs.Numbers.{u16, u32, signed};
-ghost use Rattle.bits.specs.Bits.{bitsOf};
 ghost use Rattle.item.specs.Code.{Code};
 ghost use Rattle.values.specs.Values.{setValue};
 ghost use Rattle.table.specs.Rules.{Obeys, Starts};
@@ -32,10 +29,16 @@ fn kept(item: Item, values: &mut [i64], packed: &mut [u8], room: usize, cursor: 
         Item::Value(value, next) => {
             let at = cursor.count;
             if room <= at {
-                return Step::Refused(Refusal { number: Refusal::NO_ROOM, place });
+                return Step::Refused(Refusal {
+                    number: Refusal::NO_ROOM,
+                    place,
+                });
             }
             values::keep(values, packed, at, value);
-            Step::Past(Cursor { place: next, count: at + 1 })
+            Step::Past(Cursor {
+                place: next,
+                count: at + 1,
+            })
         }
     }
 }
@@ -46,13 +49,7 @@ fn count_of(item: Item) -> usize
 {
     match item {
         Item::Bad(_) => 0,
-        Item::Value(value, _) => {
-            if value < 0 {
-                0
-            } else {
-                value as usize
-            }
-        }
+        Item::Value(value, _) => parts::count_of(value),
     }
 }
 
@@ -67,7 +64,15 @@ fn whole(step: Step) -> Begun
 }
 
 // A number row.
-fn begin_number(table: &[u8], at: usize, message: &[u8], values: &mut [i64], packed: &mut [u8], room: usize, cursor: Cursor) -> Begun
+fn begin_number(
+    table: &[u8],
+    at: usize,
+    message: &[u8],
+    values: &mut [i64],
+    packed: &mut [u8],
+    room: usize,
+    cursor: Cursor,
+) -> Begun
     requires { ⌜ (at + 12 ≤ length (now table)) × (length (now message) ≤ 65535) ⌝ }
     ensures { λ r. ⌜ Begins (now (table .entry)) at (now (message .entry)) room (one (Code.number (signed (u32 (now (table .entry)) (at + 4))) (u32 (now (table .entry)) (at + 8)))) (stateAt cursor (now (values .entry)) (now (packed .entry))) (now (values .exit)) (now (packed .exit)) r ⌝ }
 {
@@ -78,7 +83,15 @@ fn begin_number(table: &[u8], at: usize, message: &[u8], values: &mut [i64], pac
 }
 
 // A variable number row.
-fn begin_variable(table: &[u8], at: usize, message: &[u8], values: &mut [i64], packed: &mut [u8], room: usize, cursor: Cursor) -> Begun
+fn begin_variable(
+    table: &[u8],
+    at: usize,
+    message: &[u8],
+    values: &mut [i64],
+    packed: &mut [u8],
+    room: usize,
+    cursor: Cursor,
+) -> Begun
     requires { ⌜ length (now message) ≤ 65535 ⌝ }
     ensures { λ r. ⌜ Begins (now (table .entry)) at (now (message .entry)) room (one Code.variable) (stateAt cursor (now (values .entry)) (now (packed .entry))) (now (values .exit)) (now (packed .exit)) r ⌝ }
 {
@@ -87,7 +100,14 @@ fn begin_variable(table: &[u8], at: usize, message: &[u8], values: &mut [i64], p
 }
 
 // So many octets, each a value.
-fn read_octets(count: usize, message: &[u8], values: &mut [i64], packed: &mut [u8], room: usize, cursor: Cursor) -> Step
+fn read_octets(
+    count: usize,
+    message: &[u8],
+    values: &mut [i64],
+    packed: &mut [u8],
+    room: usize,
+    cursor: Cursor,
+) -> Step
     requires { ⌜ length (now message) ≤ 65535 ⌝ }
     ensures { λ r. ⌜ Reads (now (message .entry)) room (times count (one (Code.number (pos 0) 255))) (stateAt cursor (now (values .entry)) (now (packed .entry))) (now (values .exit)) (now (packed .exit)) r ⌝ }
 {
@@ -106,7 +126,15 @@ fn read_octets(count: usize, message: &[u8], values: &mut [i64], packed: &mut [u
 }
 
 // A row of octets: a length, then each octet.
-fn begin_octets(table: &[u8], at: usize, message: &[u8], values: &mut [i64], packed: &mut [u8], room: usize, cursor: Cursor) -> Begun
+fn begin_octets(
+    table: &[u8],
+    at: usize,
+    message: &[u8],
+    values: &mut [i64],
+    packed: &mut [u8],
+    room: usize,
+    cursor: Cursor,
+) -> Begun
     requires { ⌜ Obeys (now table) × Starts (now table) at × (u16 (now table) (at + 2) ≡ 7) × (length (now message) ≤ 65535) ⌝ }
     ensures { λ r. ⌜ Begins (now (table .entry)) at (now (message .entry)) room (items (now (table .entry)) at) (stateAt cursor (now (values .entry)) (now (packed .entry))) (now (values .exit)) (now (packed .exit)) r ⌝ }
 {
@@ -121,7 +149,15 @@ fn begin_octets(table: &[u8], at: usize, message: &[u8], values: &mut [i64], pac
 }
 
 // A counted run: a length, which leaves that many items of the row that it refers to.
-fn begin_counted(table: &[u8], at: usize, message: &[u8], values: &mut [i64], packed: &mut [u8], room: usize, cursor: Cursor) -> Begun
+fn begin_counted(
+    table: &[u8],
+    at: usize,
+    message: &[u8],
+    values: &mut [i64],
+    packed: &mut [u8],
+    room: usize,
+    cursor: Cursor,
+) -> Begun
     requires { ⌜ Obeys (now table) × Starts (now table) at × (u16 (now table) (at + 2) ≡ 4) × (length (now message) ≤ 65535) ⌝ }
     ensures { λ r. ⌜ Begins (now (table .entry)) at (now (message .entry)) room (items (now (table .entry)) at) (stateAt cursor (now (values .entry)) (now (packed .entry))) (now (values .exit)) (now (packed .exit)) r ⌝ }
 {
@@ -136,7 +172,15 @@ fn begin_counted(table: &[u8], at: usize, message: &[u8], values: &mut [i64], pa
 }
 
 // A choice: an index, which leaves the row of its branch.
-fn begin_choice(table: &[u8], at: usize, message: &[u8], values: &mut [i64], packed: &mut [u8], room: usize, cursor: Cursor) -> Begun
+fn begin_choice(
+    table: &[u8],
+    at: usize,
+    message: &[u8],
+    values: &mut [i64],
+    packed: &mut [u8],
+    room: usize,
+    cursor: Cursor,
+) -> Begun
     requires { ⌜ Obeys (now table) × Starts (now table) at × (u16 (now table) (at + 2) ≡ 6) × (length (now message) ≤ 65535) ⌝ }
     ensures { λ r. ⌜ Begins (now (table .entry)) at (now (message .entry)) room (items (now (table .entry)) at) (stateAt cursor (now (values .entry)) (now (packed .entry))) (now (values .exit)) (now (packed .exit)) r ⌝ }
 {
@@ -151,7 +195,15 @@ fn begin_choice(table: &[u8], at: usize, message: &[u8], values: &mut [i64], pac
 }
 
 // A field's mark behind those before it: set where the field is always there, else its presence bit, which is a value.
-fn mark(flag: usize, mask: u32, message: &[u8], values: &mut [i64], packed: &mut [u8], room: usize, cursor: Cursor) -> Begun
+fn mark(
+    flag: usize,
+    mask: u32,
+    message: &[u8],
+    values: &mut [i64],
+    packed: &mut [u8],
+    room: usize,
+    cursor: Cursor,
+) -> Begun
     requires { ⌜ (mask < 2147483648) × (length (now message) ≤ 65535) ⌝ }
     ensures { λ r. ⌜ Marks flag mask (now (message .entry)) room (stateAt cursor (now (values .entry)) (now (packed .entry))) (now (values .exit)) (now (packed .exit)) r ⌝ }
 {
@@ -170,7 +222,15 @@ fn mark(flag: usize, mask: u32, message: &[u8], values: &mut [i64], packed: &mut
 }
 
 // A record: a presence bit for each optional field, which leave the fields that are present.
-fn begin_record(table: &[u8], at: usize, message: &[u8], values: &mut [i64], packed: &mut [u8], room: usize, cursor: Cursor) -> Begun
+fn begin_record(
+    table: &[u8],
+    at: usize,
+    message: &[u8],
+    values: &mut [i64],
+    packed: &mut [u8],
+    room: usize,
+    cursor: Cursor,
+) -> Begun
     requires { ⌜ Obeys (now table) × Starts (now table) at × (u16 (now table) (at + 2) ≡ 5) × (length (now message) ≤ 65535) ⌝ }
     ensures { λ r. ⌜ Begins (now (table .entry)) at (now (message .entry)) room (items (now (table .entry)) at) (stateAt cursor (now (values .entry)) (now (packed .entry))) (now (values .exit)) (now (packed .exit)) r ⌝ }
 {
@@ -191,17 +251,16 @@ fn begin_record(table: &[u8], at: usize, message: &[u8], values: &mut [i64], pac
     Begun::Fields(mask, here)
 }
 
-// Whether a mask of so many fields marks a field, the first field on top.
-pub fn is_marked(mask: u32, fields: usize, field: usize) -> bool
-    requires { ⌜ (field < fields) × (fields ≤ 32) × (mask < 2 ^ fields) ⌝ }
-    ensures { λ r. ⌜ r ≡ getD (bitsOf fields mask) field false ⌝ }
-{
-    let below = (fields - 1 - field) as u32;
-    (mask >> below) % 2 == 1
-}
-
 // The row at an offset: its own items, and what they leave.
-pub fn begin(table: &[u8], at: usize, message: &[u8], values: &mut [i64], packed: &mut [u8], room: usize, cursor: Cursor) -> Begun
+pub fn begin(
+    table: &[u8],
+    at: usize,
+    message: &[u8],
+    values: &mut [i64],
+    packed: &mut [u8],
+    room: usize,
+    cursor: Cursor,
+) -> Begun
     requires { ⌜ Obeys (now table) × Starts (now table) at × (length (now message) ≤ 65535) ⌝ }
     ensures { λ r. ⌜ Begins (now (table .entry)) at (now (message .entry)) room (items (now (table .entry)) at) (stateAt cursor (now (values .entry)) (now (packed .entry))) (now (values .exit)) (now (packed .exit)) r ⌝ }
 {

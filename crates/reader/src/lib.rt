@@ -4,7 +4,6 @@ mod begin;
 
 use answer::Refusal;
 use bits::BitPlace;
-
 ghost use mathlib.Core.Path.{_≡_};
 ghost use Prim.Native.Nat.{_+_, _*_, _<_, _≤_, _^_};
 ghost use lib.ListN.{length};
@@ -13,7 +12,7 @@ ghost use Rattle.table.specs.Rules.{Obeys, Starts, Earlier};
 ghost use Rattle.encoding.specs.Items.{times};
 ghost use Rattle.encoding.specs.Rows.{items};
 ghost use Rattle.reader.specs.Reads.{Reads, stateAt};
-ghost use Rattle.reader.specs.Begins.{markedFields, fieldIf};
+ghost use Rattle.parts.specs.Parts.{markedFields, fieldIf};
 
 // Where a reader stands: the next bit of the message, and how many values were read.
 pub struct Cursor {
@@ -38,22 +37,59 @@ pub enum Begun {
 }
 
 // The row at an offset.
-pub fn read_row(table: &[u8], at: usize, message: &[u8], values: &mut [i64], packed: &mut [u8], room: usize, cursor: Cursor) -> Step
+pub fn read_row(
+    table: &[u8],
+    at: usize,
+    message: &[u8],
+    values: &mut [i64],
+    packed: &mut [u8],
+    room: usize,
+    cursor: Cursor,
+) -> Step
     requires { ⌜ Obeys (now table) × Starts (now table) at × (length (now message) ≤ 65535) ⌝ }
     ensures { λ r. ⌜ Reads (now (message .entry)) room (items (now (table .entry)) at) (stateAt cursor (now (values .entry)) (now (packed .entry))) (now (values .exit)) (now (packed .exit)) r ⌝ }
 {
     let begun = begin::begin(table, at, message, values, packed, room, cursor);
     match begun {
         Begun::Done(next) => Step::Past(next),
-        Begun::Run(count, row, next) => read_run(table, at, row, count, message, values, packed, room, next),
+        Begun::Run(count, row, next) => read_run(
+            table,
+            at,
+            row,
+            count,
+            message,
+            values,
+            packed,
+            room,
+            next,
+        ),
         Begun::Branch(row, next) => read_row(table, row, message, values, packed, room, next),
-        Begun::Fields(mask, next) => read_fields(table, at, mask, message, values, packed, room, next),
+        Begun::Fields(mask, next) => read_fields(
+            table,
+            at,
+            mask,
+            message,
+            values,
+            packed,
+            room,
+            next,
+        ),
         Begun::Refused(refusal) => Step::Refused(refusal),
     }
 }
 
 // So many times the row at an offset before `at`.
-fn read_run(table: &[u8], at: usize, row: usize, count: usize, message: &[u8], values: &mut [i64], packed: &mut [u8], room: usize, cursor: Cursor) -> Step
+fn read_run(
+    table: &[u8],
+    at: usize,
+    row: usize,
+    count: usize,
+    message: &[u8],
+    values: &mut [i64],
+    packed: &mut [u8],
+    room: usize,
+    cursor: Cursor,
+) -> Step
     requires { ⌜ Obeys (now table) × Starts (now table) at × Earlier (now table) at row × (length (now message) ≤ 65535) ⌝ }
     ensures { λ r. ⌜ Reads (now (message .entry)) room (times count (items (now (table .entry)) row)) (stateAt cursor (now (values .entry)) (now (packed .entry))) (now (values .exit)) (now (packed .exit)) r ⌝ }
 {
@@ -71,7 +107,16 @@ fn read_run(table: &[u8], at: usize, row: usize, count: usize, message: &[u8], v
 }
 
 // The fields of the record at an offset that are marked as present.
-fn read_fields(table: &[u8], at: usize, mask: u32, message: &[u8], values: &mut [i64], packed: &mut [u8], room: usize, cursor: Cursor) -> Step
+fn read_fields(
+    table: &[u8],
+    at: usize,
+    mask: u32,
+    message: &[u8],
+    values: &mut [i64],
+    packed: &mut [u8],
+    room: usize,
+    cursor: Cursor,
+) -> Step
     requires { ⌜ Obeys (now table) × Starts (now table) at × (u16 (now table) (at + 2) ≡ 5) × (mask < 2 ^ u16 (now table) (at + 4)) × (length (now message) ≤ 65535) ⌝ }
     ensures { λ r. ⌜ Reads (now (message .entry)) room (markedFields (now (table .entry)) at mask) (stateAt cursor (now (values .entry)) (now (packed .entry))) (now (values .exit)) (now (packed .exit)) r ⌝ }
 {
@@ -80,7 +125,7 @@ fn read_fields(table: &[u8], at: usize, mask: u32, message: &[u8], values: &mut 
     let mut here = cursor;
     while field < fields {
         let row = octets::u16_at(table, at + 6 + 4 * field);
-        let present = begin::is_marked(mask, fields, field);
+        let present = parts::is_marked(mask, fields, field);
         let step = read_field(table, at, row, present, message, values, packed, room, here);
         let Step::Past(next) = step else {
             return step;
@@ -92,7 +137,17 @@ fn read_fields(table: &[u8], at: usize, mask: u32, message: &[u8], values: &mut 
 }
 
 // A field, where it is present: the row at an offset before `at`.
-fn read_field(table: &[u8], at: usize, row: usize, present: bool, message: &[u8], values: &mut [i64], packed: &mut [u8], room: usize, cursor: Cursor) -> Step
+fn read_field(
+    table: &[u8],
+    at: usize,
+    row: usize,
+    present: bool,
+    message: &[u8],
+    values: &mut [i64],
+    packed: &mut [u8],
+    room: usize,
+    cursor: Cursor,
+) -> Step
     requires { ⌜ Obeys (now table) × Starts (now table) at × Earlier (now table) at row × (length (now message) ≤ 65535) ⌝ }
     ensures { λ r. ⌜ Reads (now (message .entry)) room (fieldIf present (items (now (table .entry)) row)) (stateAt cursor (now (values .entry)) (now (packed .entry))) (now (values .exit)) (now (packed .exit)) r ⌝ }
 {

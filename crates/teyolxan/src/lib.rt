@@ -1,22 +1,29 @@
-// What a host written in Rust or C calls: check and read under a lent table, on plain numbers and octet slices. A value is
+// What a host written in Rust or C calls: check, read and write under a lent table, on plain numbers and octet slices. A value is
 // eight octets, little-endian, two's complement; octets after the last whole eight of a value slice hold none.
 use answer::Answer;
-
 ghost use mathlib.Core.Path.{_≡_};
 ghost use Prim.Native.Nat.{_/_};
 ghost use lib.ListN.{length};
-ghost use Rattle.values.specs.Values.{listOctets};
+ghost use Rattle.values.specs.Values.{listOctets, valuesIn};
 ghost use Rattle.table.specs.Verdict.{verdict, checked};
 ghost use Rattle.encoding.specs.Reading.{readOutcome, readValues};
-ghost use Rattle.encoding.specs.Calls.{readCall, filled};
+ghost use Rattle.encoding.specs.Writing.{writeOutcome};
+ghost use Rattle.encoding.specs.Calls.{readCall, filled, writeCall, outputAfter};
 ghost use Rattle.teyolxan.specs.Told.{told};
 
 // The answer as six numbers: the refusal's number, its place, the values, the bits, the octets, and 0.
-fn told(answer: Answer) -> [u64; 6]
+pub fn told(answer: Answer) -> [u64; 6]
     ensures { λ r. ⌜ r ≡ told answer ⌝ }
 {
     match answer {
-        Answer::Accepted(counts) => [0, 0, counts.values as u64, counts.bits.0 as u64, counts.octets.0 as u64, 0],
+        Answer::Accepted(counts) => [
+            0,
+            0,
+            counts.values as u64,
+            counts.bits.0 as u64,
+            counts.octets.0 as u64,
+            0,
+        ],
         Answer::Refused(refusal) => [refusal.number as u64, refusal.place as u64, 0, 0, 0, 0],
     }
 }
@@ -29,9 +36,27 @@ pub extern "C" fn teyolxan_check(table: &[u8], numbers: &mut [u64; 6])
 }
 
 #[no_mangle]
-pub extern "C" fn teyolxan_read(table: &[u8], message: &[u8], values: &mut [u8], numbers: &mut [u64; 6])
+pub extern "C" fn teyolxan_read(
+    table: &[u8],
+    message: &[u8],
+    values: &mut [u8],
+    numbers: &mut [u64; 6],
+)
     ensures { λ _. ⌜ (now (numbers .exit) ≡ told (readCall (now (table .entry)) (now (message .entry)) (length (now (values .entry)) / 8))) × (now (values .exit) ≡ filled 0 (length (now (values .entry))) (listOctets (readValues (readOutcome (now (table .entry)) (now (message .entry)) (length (now (values .entry)) / 8))))) ⌝ }
 {
     let answer = codec::read_packed(table, message, values);
+    *numbers = told(answer);
+}
+
+#[no_mangle]
+pub extern "C" fn teyolxan_write(
+    table: &[u8],
+    values: &[u8],
+    output: &mut [u8],
+    numbers: &mut [u64; 6],
+)
+    ensures { λ _. ⌜ (now (numbers .exit) ≡ told (writeCall (now (table .entry)) (valuesIn (now (values .entry))) (length (now (output .entry))))) × (now (output .exit) ≡ outputAfter (length (now (output .entry))) (writeOutcome (now (table .entry)) (valuesIn (now (values .entry))) (length (now (output .entry))))) ⌝ }
+{
+    let answer = codec::write_packed(table, values, output);
     *numbers = told(answer);
 }

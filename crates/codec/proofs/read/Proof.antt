@@ -41,18 +41,18 @@ same-length : tie.Need-same-length
 same-length c = search needs
 
 returns : tie.Need-returns
-returns c = 
+returns c =
     let a = c .before .before .before .before .before .before .before .before .args in
     let b = broken-outcome (now (a .table)) (now (a .message)) (length (now (a .values))) _ _ (c .before .before .before .before .before .check .ensures) (c .before .before .before .enum-told2 .given .1) in
     (b .0, c .before .clear-values .ensures ∙ ap (λ (vs : List ℤ). filled (pos 0) (length (now (a .values))) vs) (sym (b .1)))
 
 root-requires : tie.Need-root-requires
-root-requires c κs = 
+root-requires c κs =
     let a = c .before .before .before .before .before .args in
     let h : Obeys (now (a .table)) = accepted-obeys (now (a .table)) _ _ (c .before .before .check .ensures) (c .enum-told .given .1) in passes-exactly (now (a .table)) .1 h
 
 read-known-requires : tie.Need-read-known-requires
-read-known-requires c κs = 
+read-known-requires c κs =
     let a = c .before .before .before .before .before .before .before .args in
     let h : Obeys (now (a .table)) = accepted-obeys (now (a .table)) _ _ (c .before .before .before .before .check .ensures) (c .before .before .enum-told .given .1) in (h, c .before .root .ensures)
 

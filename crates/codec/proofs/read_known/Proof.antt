@@ -34,7 +34,7 @@ kept-count-requires : tie.Need-kept-count-requires
 kept-count-requires c κs = search needs
 
 clear-values-requires : tie.Need-clear-values-requires
-clear-values-requires c κs = 
+clear-values-requires c κs =
     let a = c .before .before .before .before .before .before .before .before .before .args in
     let r = c .before .before .before .before .read-passed in
     let n = length (now (a .values)) in
@@ -46,7 +46,7 @@ same-length : tie.Need-same-length
 same-length c = search needs
 
 returns : tie.Need-returns
-returns c = 
+returns c =
     let s = c .before .before .before .before .before .before .before .before .before .before .before in
     let a = s .args in
     let r = c .before .before .before .before .before .before .read-passed in

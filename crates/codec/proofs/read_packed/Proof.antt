@@ -43,13 +43,13 @@ same-length c = search needs
 
 returns : tie.Need-returns
 unfolding listOctets
-returns c = 
+returns c =
     let a = c .before .before .before .before .before .before .before .before .before .before .args in
     let b = broken-outcome (now (a .table)) (now (a .message)) (length (now (a .packed)) / 8) _ _ (c .before .before .before .before .before .before .check .ensures) (c .before .before .before .before .enum-told2 .given .1) in
     (b .0, c .before .before .clear-octets .ensures ∙ ap (λ (vs : List ℤ). filled 0 (length (now (a .packed))) (listOctets vs)) (sym (b .1)))
 
 root-requires : tie.Need-root-requires
-root-requires c κs = 
+root-requires c κs =
     let a = c .before .before .before .before .before .before .args in
     let h : Obeys (now (a .table)) = accepted-obeys (now (a .table)) _ _ (c .before .before .check .ensures) (c .enum-told .given .1) in passes-exactly (now (a .table)) .1 h
 
@@ -57,7 +57,7 @@ slice-aggregate-read-passed : tie.Need-slice-aggregate-read-passed
 slice-aggregate-read-passed c = search needs
 
 read-passed-requires : tie.Need-read-passed-requires
-read-passed-requires c κs = 
+read-passed-requires c κs =
     let a = c .before .before .before .before .before .before .before .before .before .args in
     let h : Obeys (now (a .table)) = accepted-obeys (now (a .table)) _ _ (c .before .before .before .before .before .check .ensures) (c .before .before .before .enum-told .given .1) in (h, c .before .before .root .ensures)
 
@@ -65,7 +65,7 @@ kept-count-requires : tie.Need-kept-count-requires
 kept-count-requires c κs = search needs
 
 mul-clear-octets : tie.Need-mul-clear-octets
-mul-clear-octets c = 
+mul-clear-octets c =
     let a = c .before .before .before .before .before .before .before .before .before .before .before .before .before .before .before .args in
     let r = c .before .before .before .before .before .read-passed in
     let n = length (now (a .packed)) / 8 in
@@ -73,7 +73,7 @@ mul-clear-octets c =
     let k : c .before .kept-count .result ≡ length (readValues o) = c .before .kept-count .ensures ∙ ap keptCount (r .ensures .0) ∙ count-is o in omega (arith, outcome-fits (now (a .table)) (now (a .message)) n)
 
 clear-octets-requires-2 : tie.Need-clear-octets-requires-2
-clear-octets-requires-2 c κs = 
+clear-octets-requires-2 c κs =
     let a = c .before .before .before .before .before .before .before .before .before .before .before .before .before .before .before .args in
     let r = c .before .before .before .before .before .read-passed in
     let n = length (now (a .packed)) / 8 in
@@ -84,7 +84,7 @@ same-length-2 : tie.Need-same-length-2
 same-length-2 c = search needs
 
 returns-2 : tie.Need-returns-2
-returns-2 c = 
+returns-2 c =
     let a = c .before .before .before .before .before .before .before .before .before .before .before .before .before .before .before .before .before .before .args in
     let r = c .before .before .before .before .before .before .before .before .read-passed in
     let n = length (now (a .packed)) / 8 in

@@ -26,7 +26,7 @@ enum-told-2 : tie.Need-enum-told-2
 enum-told-2 c = search needs
 
 returns : tie.Need-returns
-returns c = 
+returns c =
     let a = c .before .before .before .before .before .args in
     rw (unfit (now (a .message)) (a .room) _ (sym (c .before .before .lm-tested .ensures) ∙ c .enum-told2 .given .1)) (c .enum-told2 .given .1, tt, tt)
 
@@ -35,7 +35,7 @@ slice-aggregate-read-message c = search needs
 
 read-message-requires : tie.Need-read-message-requires
 unfolding lm
-read-message-requires c κs = 
+read-message-requires c κs =
     let a = c .before .before .before .before .before .before .before .before .args in
     let f = fine (now (a .message)) (a .room) _ (sym (c .before .before .before .before .before .lm-tested .ensures) ∙ c .before .before .before .enum-told .given .1) in
     (lm-obeys, sym lm-root, f .some, f .most)
@@ -48,7 +48,7 @@ same-length-2 c = search needs
 
 returns-2 : tie.Need-returns-2
 unfolding lm
-returns-2 c = 
+returns-2 c =
     let a = c .before .before .before .before .before .before .before .before .before .before .before .before .args in
     rw (fine (now (a .message)) (a .room) _ (sym (c .before .before .before .before .before .before .before .before .before .lm-tested .ensures) ∙ c .before .before .before .before .before .before .before .enum-told .given .1) .outcome) (c .before .before .before .read-message .ensures)
 

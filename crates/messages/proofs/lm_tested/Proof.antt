@@ -37,7 +37,7 @@ refused-requires-2 : tie.Need-refused-requires-2
 refused-requires-2 c κs = search needs
 
 returns-2 : tie.Need-returns-2
-returns-2 c = 
+returns-2 c =
     let m = now (c .before .before .before .before .before .before .args .message) in
     c .refused2 .ensures ∙ tested-empty m (c .before .before .before .before .if1 .left) (omega (arith, fetched-Short m 5 3 (sym (c .before .before .before .fetch .ensures) ∙ c .before .enum-told .given .1)))
 
@@ -45,7 +45,7 @@ refused-requires-3 : tie.Need-refused-requires-3
 refused-requires-3 c κs = search needs
 
 returns-3 : tie.Need-returns-3
-returns-3 c = 
+returns-3 c =
     let m = now (c .before .before .before .before .before .before .before .before .args .message) in
     let v = fetched-Bits m 5 3 _ _ (sym (c .before .before .before .before .before .fetch .ensures) ∙ c .before .before .before .version .given .1) in
     c .refused3 .ensures ∙ tested-version m (c .before .before .before .before .before .before .if1 .left) (omega (arith, v .0)) _ (v .1) (c .before .if2 .taken)
@@ -63,7 +63,7 @@ refused-requires-4 : tie.Need-refused-requires-4
 refused-requires-4 c κs = search needs
 
 returns-4 : tie.Need-returns-4
-returns-4 c = 
+returns-4 c =
     let m = now (c .before .before .before .before .before .before .before .before .before .before .before .args .message) in
     let v = fetched-Bits m 5 3 _ _ (sym (c .before .before .before .before .before .before .before .before .fetch .ensures) ∙ c .before .before .before .before .before .before .version .given .1) in
     absurd (omega (arith, v .0, fetched-Short m 0 4 (sym (c .before .before .before .fetch2 .ensures) ∙ c .before .enum-told2 .given .1)))
@@ -72,7 +72,7 @@ refused-requires-5 : tie.Need-refused-requires-5
 refused-requires-5 c κs = search needs
 
 returns-5 : tie.Need-returns-5
-returns-5 c = 
+returns-5 c =
     let m = now (c .before .before .before .before .before .before .before .before .before .before .before .before .before .args .message) in
     let v = fetched-Bits m 5 3 _ _ (sym (c .before .before .before .before .before .before .before .before .before .before .fetch .ensures) ∙ c .before .before .before .before .before .before .before .before .version .given .1) in
     let u = fetched-Bits m 0 4 _ _ (sym (c .before .before .before .before .before .fetch2 .ensures) ∙ c .before .before .before .subtype .given .1) in
@@ -82,7 +82,7 @@ accepted-requires : tie.Need-accepted-requires
 accepted-requires c κs = search needs
 
 returns-6 : tie.Need-returns-6
-returns-6 c = 
+returns-6 c =
     let m = now (c .before .before .before .before .before .before .before .before .before .before .before .before .before .args .message) in
     let v = fetched-Bits m 5 3 _ _ (sym (c .before .before .before .before .before .before .before .before .before .before .fetch .ensures) ∙ c .before .before .before .before .before .before .before .before .version .given .1) in
     let u = fetched-Bits m 0 4 _ _ (sym (c .before .before .before .before .before .fetch2 .ensures) ∙ c .before .before .before .subtype .given .1) in

@@ -31,7 +31,7 @@ kept-count-requires : tie.Need-kept-count-requires
 kept-count-requires c κs = search needs
 
 clear-values-requires : tie.Need-clear-values-requires
-clear-values-requires c κs = 
+clear-values-requires c κs =
     let a = c .before .before .before .before .before .before .before .before .args in
     let r = c .before .before .before .before .lm-message in
     let o = readLmOutcome (now (a .message)) (length (now (a .values))) in
@@ -42,7 +42,7 @@ same-length : tie.Need-same-length
 same-length c = search needs
 
 returns : tie.Need-returns
-returns c = 
+returns c =
     let a = c .before .before .before .before .before .before .before .before .before .before .args in
     let r = c .before .before .before .before .before .before .lm-message in
     let n = length (now (a .values)) in

@@ -14,10 +14,10 @@ use Rattle.table.proofs.Obeyed.{earlier-starts, record-row}
 use Rattle.encoding.specs.Items.{times}
 use Rattle.encoding.specs.Rows.{items}
 use Rattle.reader.specs.Reads.{stateAt, Continues}
-use Rattle.reader.specs.Begins.{markedFields}
+use Rattle.parts.specs.Parts.{markedFields}
 use Rattle.reader.proofs.Flow.{continues-trans, continues-same, continues-end, continues-part, refused-part, reads-nothing}
-use Rattle.reader.proofs.Beginnings.{times-none, times-more}
-use Rattle.reader.proofs.Records.{fieldsFrom, fields-start, fields-end, fields-next}
+use Rattle.parts.proofs.Runs.{times-none, times-more}
+use Rattle.parts.proofs.Records.{fieldsFrom, fields-start, fields-end, fields-next}
 use borrow.Author.Needs.{needs}
 use borrow.Fn.Kinds.{In}
 use borrow.Fn.PlainCycle.{Measures, is, falls, and}
@@ -35,7 +35,7 @@ use Rattle.reader.proofs.read_run.Kinds as read-run-kinds
 use Rattle.reader.proofs.+read_field+read_fields+read_row+read_run.Lts-read_run as read-run-lts
 use Rattle.octets.proofs.u16_at.Reads as u16-at-reads
 use Rattle.reader.proofs.begin.begin.Reads as begin-reads
-use Rattle.reader.proofs.begin.is_marked.Reads as is-marked-reads
+use Rattle.parts.proofs.is_marked.Reads as is-marked-reads
 use Rattle.reader.proofs.+read_field+read_fields+read_row+read_run.{statement}
 use Rattle.reader.proofs.+read_field+read_fields+read_row+read_run.Tie.{close}
 
@@ -94,7 +94,7 @@ abbrev read-run-known : ℕ → read-run-lts.Claims
 read-run-known t = (read-row-below t, read-row.Post)
 
 read-field-read-row-requires : (t : ℕ) → read-field-lts.Need-read-row-requires (read-field-known t) (read-field-at t) read-field.Post
-read-field-read-row-requires t c κs = 
+read-field-read-row-requires t c κs =
     let s = c .before .before .before .before .before .before in
     (omega (arith, s .pre .0, s .pre .1 .2 .1), (s .pre .1 .0, earlier-starts (s .pre .1 .1) (s .pre .1 .2), s .pre .1 .3))
 
@@ -119,45 +119,45 @@ abbrev read-fields-μ-loop : read-fields-lts.MeasureT-loop
 read-fields-μ-loop table at mask message values₀ packed₀ room fields field₀ here₀ values packed field here = fields - field
 
 read-fields-u16-at-requires : (t : ℕ) → read-fields-lts.Need-u16-at-requires (read-fields-known t) (read-fields-at t) read-fields.Post read-fields-Inv-loop read-fields-μ-loop
-read-fields-u16-at-requires t c κs = 
+read-fields-u16-at-requires t c κs =
     let s = c .before .before .before in
     let row = record-row (s .pre .1 .0) (s .pre .1 .1) (s .pre .1 .2) in omega (arith, row .inside)
 
 read-fields-loop-holds : (t : ℕ) → read-fields-lts.Need-loop-holds (read-fields-known t) (read-fields-at t) read-fields.Post read-fields-Inv-loop read-fields-μ-loop
-read-fields-loop-holds t c = 
+read-fields-loop-holds t c =
     let s = c .before .before .before .before in
     let row = record-row (s .pre .1 .0) (s .pre .1 .1) (s .pre .1 .2) in
     (omega arith, refl, refl, continues-same (fields-start (now (s .args .table)) (s .args .at) (s .args .mask)))
 
 read-fields-add-u16-at-2 : (t : ℕ) → read-fields-lts.Need-add-u16-at-2 (read-fields-known t) (read-fields-at t) read-fields.Post read-fields-Inv-loop read-fields-μ-loop
-read-fields-add-u16-at-2 t c = 
+read-fields-add-u16-at-2 t c =
     let s = c .before .before .before .before .before .before in
     let row = record-row (s .pre .1 .0) (s .pre .1 .1) (s .pre .1 .2) in let e = c .before .before .u16-at .ensures .0 in omega (arith, row .inside, row .most, s .pre .1 .0 .most)
 
 read-fields-mul-u16-at : (t : ℕ) → read-fields-lts.Need-mul-u16-at (read-fields-known t) (read-fields-at t) read-fields.Post read-fields-Inv-loop read-fields-μ-loop
-read-fields-mul-u16-at t c = 
+read-fields-mul-u16-at t c =
     let s = c .before .before .before .before .before .before in
     let row = record-row (s .pre .1 .0) (s .pre .1 .1) (s .pre .1 .2) in let e = c .before .before .u16-at .ensures .0 in omega (arith, row .inside, row .most, s .pre .1 .0 .most)
 
 read-fields-add-u16-at-3 : (t : ℕ) → read-fields-lts.Need-add-u16-at-3 (read-fields-known t) (read-fields-at t) read-fields.Post read-fields-Inv-loop read-fields-μ-loop
-read-fields-add-u16-at-3 t c = 
+read-fields-add-u16-at-3 t c =
     let s = c .before .before .before .before .before .before in
     let row = record-row (s .pre .1 .0) (s .pre .1 .1) (s .pre .1 .2) in let e = c .before .before .u16-at .ensures .0 in omega (arith, row .inside, row .most, s .pre .1 .0 .most)
 
 read-fields-u16-at-requires-2 : (t : ℕ) → read-fields-lts.Need-u16-at-requires-2 (read-fields-known t) (read-fields-at t) read-fields.Post read-fields-Inv-loop read-fields-μ-loop
-read-fields-u16-at-requires-2 t c κs = 
+read-fields-u16-at-requires-2 t c κs =
     let s = c .before .before .before .before .before .before in
     let row = record-row (s .pre .1 .0) (s .pre .1 .1) (s .pre .1 .2) in let e = c .before .before .u16-at .ensures .0 in omega (arith, row .inside, row .most, s .pre .1 .0 .most)
 
 read-fields-is-marked-requires : (t : ℕ) → read-fields-lts.Need-is-marked-requires (read-fields-known t) (read-fields-at t) read-fields.Post read-fields-Inv-loop read-fields-μ-loop
-read-fields-is-marked-requires t c κs = 
+read-fields-is-marked-requires t c κs =
     let s = c .before .before .before .before .before .before .before in
     let row = record-row (s .pre .1 .0) (s .pre .1 .1) (s .pre .1 .2) in
     let e = c .before .before .before .u16-at .ensures .0 in
     (omega arith, omega (arith, row .most), rw e (s .pre .1 .3))
 
 read-fields-read-field-requires : (t : ℕ) → read-fields-lts.Need-read-field-requires (read-fields-known t) (read-fields-at t) read-fields.Post read-fields-Inv-loop read-fields-μ-loop
-read-fields-read-field-requires t c κs = 
+read-fields-read-field-requires t c κs =
     let s = c .before .before .before .before .before .before .before .before .before .before in
     let row = record-row (s .pre .1 .0) (s .pre .1 .1) (s .pre .1 .2) in
     let loop = c .before .before .before .before .before .loop in
@@ -165,7 +165,7 @@ read-fields-read-field-requires t c κs =
     (omega (arith, s .pre .0), (s .pre .1 .0, s .pre .1 .1, rw (c .before .before .before .u16-at2 .ensures .0) (row .field (loop .field) (omega arith)), s .pre .1 .4))
 
 read-fields-returns : (t : ℕ) → read-fields-lts.Need-returns (read-fields-known t) (read-fields-at t) read-fields.Post read-fields-Inv-loop read-fields-μ-loop
-read-fields-returns t c = 
+read-fields-returns t c =
     let s = c .before .before .before .before .before .before .before .before .before .before .before .before .before .before .before .before in
     let a = s .args in
     let loop = c .before .before .before .before .before .before .before .before .before .before .before .loop in
@@ -177,7 +177,7 @@ read-fields-returns t c =
     continues-trans (loop .inv .3) (continues-same next) .complete _ _ _ (refused-part _ _ (field .ensures) (c .enum-told .given .1))
 
 read-fields-loop-again : (t : ℕ) → read-fields-lts.Need-loop-again (read-fields-known t) (read-fields-at t) read-fields.Post read-fields-Inv-loop read-fields-μ-loop
-read-fields-loop-again t c = 
+read-fields-loop-again t c =
     let s = c .before .before .before .before .before .before .before .before .before .before .before .before .before .before .before .before .before in
     let a = s .args in
     let loop = c .before .before .before .before .before .before .before .before .before .before .before .before .loop in
@@ -185,12 +185,15 @@ read-fields-loop-again t c =
     let e = c .before .before .before .before .before .before .before .before .before .before .before .before .before .u16-at .ensures .0 in
     let l : loop .field < u16 (now (a .table)) (a .at + 4) = omega (arith, e, c .before .before .before .before .before .before .before .before .before .before .before .loop-test .taken) in
     let present = c .before .before .before .before .before .before .before .before .before .is-marked .ensures ∙ ap (λ (n : ℕ). getD (bitsOf n (a .mask)) (loop .field) false) e in
-    let next = fields-next (now (a .table)) (a .at) (a .mask) (loop .field) _ _ l (c .before .before .before .before .before .before .before .before .before .before .u16-at2 .ensures .0) present in
-    (omega (arith, c .before .before .before .before .before .before .before .before .before .before .before .loop-test .taken), search needs, search needs,
-     continues-trans (loop .inv .3) (continues-trans (continues-same next) (continues-part _ _ (field .ensures) (c .before .step .given .1))))
+    let next = fields-next (now (a .table)) (a .at) (a .mask) (loop .field) _ _ l (c .before .before .before .before .before .before .before .before .before .before .u16-at2 .ensures .0) present in (
+      omega (arith, c .before .before .before .before .before .before .before .before .before .before .before .loop-test .taken),
+      search needs,
+      search needs,
+      continues-trans (loop .inv .3) (continues-trans (continues-same next) (continues-part _ _ (field .ensures) (c .before .step .given .1))),
+    )
 
 read-fields-returns-2 : (t : ℕ) → read-fields-lts.Need-returns-2 (read-fields-known t) (read-fields-at t) read-fields.Post read-fields-Inv-loop read-fields-μ-loop
-read-fields-returns-2 t c = 
+read-fields-returns-2 t c =
     let s = c .before .before .before .before .before .before in
     let a = s .args in
     let loop = c .before .loop in
@@ -201,45 +204,45 @@ read-row-begin-requires : (t : ℕ) → read-row-lts.Need-begin-requires (read-r
 read-row-begin-requires t c κs = c .before .before .before .before .before .pre .1
 
 read-row-read-run-requires : (t : ℕ) → read-row-lts.Need-read-run-requires (read-row-known t) (read-row-at t) read-row.Post
-read-row-read-run-requires t c κs = 
+read-row-read-run-requires t c κs =
     let s = c .before .before .before .before .before .before .before .before .before .before .before .before .before .before in
     let b = rw (c .before .before .before .begun2 .given .1) at (c .before .before .before .before .before .before .before .before .begin .ensures) in
     (omega (arith, s .pre .0), (s .pre .1 .0, s .pre .1 .1, b .0, s .pre .1 .2))
 
 read-row-read-row-requires : (t : ℕ) → read-row-lts.Need-read-row-requires (read-row-known t) (read-row-at t) read-row.Post
-read-row-read-row-requires t c κs = 
+read-row-read-row-requires t c κs =
     let s = c .before .before .before .before .before .before .before .before .before .before .before .before .before .before in
     let b = rw (c .before .before .before .begun3 .given .1) at (c .before .before .before .before .before .before .before .before .begin .ensures) in
     (omega (arith, s .pre .0, b .0 .1), (s .pre .1 .0, earlier-starts (s .pre .1 .1) (b .0), s .pre .1 .2))
 
 read-row-read-fields-requires : (t : ℕ) → read-row-lts.Need-read-fields-requires (read-row-known t) (read-row-at t) read-row.Post
-read-row-read-fields-requires t c κs = 
+read-row-read-fields-requires t c κs =
     let s = c .before .before .before .before .before .before .before .before .before .before .before .before .before .before in
     let b = rw (c .before .before .before .begun4 .given .1) at (c .before .before .before .before .before .before .before .before .begin .ensures) in
     (omega (arith, s .pre .0), (s .pre .1 .0, s .pre .1 .1, b .0, b .1, s .pre .1 .2))
 
 read-row-returns : (t : ℕ) → read-row-lts.Need-returns (read-row-known t) (read-row-at t) read-row.Post
-read-row-returns t c = 
+read-row-returns t c =
     let s = c .before .before .before .before .before .before .before .before .before .before .before .before in
     let b = rw (c .before .begun .given .1) at (c .before .before .before .before .before .before .begin .ensures) in continues-end b
 
 read-row-returns-2 : (t : ℕ) → read-row-lts.Need-returns-2 (read-row-known t) (read-row-at t) read-row.Post
-read-row-returns-2 t c = 
+read-row-returns-2 t c =
     let s = c .before .before .before .before .before .before .before .before .before .before .before .before .before .before .before .before .before .before in
     let b = rw (c .before .before .before .before .before .before .before .begun2 .given .1) at (c .before .before .before .before .before .before .before .before .before .before .before .before .begin .ensures) in b .1 .complete _ _ _ (c .before .before .before .read-run .ensures)
 
 read-row-returns-3 : (t : ℕ) → read-row-lts.Need-returns-3 (read-row-known t) (read-row-at t) read-row.Post
-read-row-returns-3 t c = 
+read-row-returns-3 t c =
     let s = c .before .before .before .before .before .before .before .before .before .before .before .before .before .before .before .before .before .before in
     let b = rw (c .before .before .before .before .before .before .before .begun3 .given .1) at (c .before .before .before .before .before .before .before .before .before .before .before .before .begin .ensures) in b .1 .complete _ _ _ (c .before .before .before .read-row .ensures)
 
 read-row-returns-4 : (t : ℕ) → read-row-lts.Need-returns-4 (read-row-known t) (read-row-at t) read-row.Post
-read-row-returns-4 t c = 
+read-row-returns-4 t c =
     let s = c .before .before .before .before .before .before .before .before .before .before .before .before .before .before .before .before .before .before in
     let b = rw (c .before .before .before .before .before .before .before .begun4 .given .1) at (c .before .before .before .before .before .before .before .before .before .before .before .before .begin .ensures) in b .2 .complete _ _ _ (c .before .before .before .read-fields .ensures)
 
 read-row-returns-5 : (t : ℕ) → read-row-lts.Need-returns-5 (read-row-known t) (read-row-at t) read-row.Post
-read-row-returns-5 t c = 
+read-row-returns-5 t c =
     let s = c .before .before .before .before .before .before .before .before .before .before .before .before in
     let b = rw (c .before .begun5 .given .1) at (c .before .before .before .before .before .before .begin .ensures) in b
 
@@ -257,12 +260,12 @@ read-run-loop-holds :
     (read-run-known t) (read-run-at t) read-run.Post
     read-run-Inv-loop
     read-run-μ-loop
-read-run-loop-holds t c = 
+read-run-loop-holds t c =
     let a = c .before .before .before .args in
     (omega arith, refl, refl, continues-same (ap (λ (n : ℕ). times n (items (now (a .table)) (a .row))) (omega arith)))
 
 read-run-read-row-requires : (t : ℕ) → read-run-lts.Need-read-row-requires (read-run-known t) (read-run-at t) read-run.Post read-run-Inv-loop read-run-μ-loop
-read-run-read-row-requires t c κs = 
+read-run-read-row-requires t c κs =
     let s = c .before .before .before .before .before .before .before in
     (omega (arith, s .pre .0, s .pre .1 .2 .1), (s .pre .1 .0, earlier-starts (s .pre .1 .1) (s .pre .1 .2), s .pre .1 .3))
 
@@ -272,7 +275,7 @@ read-run-returns :
     (read-run-known t) (read-run-at t) read-run.Post
     read-run-Inv-loop
     read-run-μ-loop
-read-run-returns t c = 
+read-run-returns t c =
     let a = c .before .before .before .before .before .before .before .before .before .before .before .before .before .args in
     let loop = c .before .before .before .before .before .before .before .before .before .loop in
     let row = c .before .before .before .before .before .read-row in
@@ -286,14 +289,17 @@ read-run-loop-again :
     (read-run-known t) (read-run-at t) read-run.Post
     read-run-Inv-loop
     read-run-μ-loop
-read-run-loop-again t c = 
+read-run-loop-again t c =
     let a = c .before .before .before .before .before .before .before .before .before .before .before .before .before .before .args in
     let loop = c .before .before .before .before .before .before .before .before .before .before .loop in
     let row = c .before .before .before .before .before .before .read-row in
     let more : a .count - loop .done ≡ suc (a .count - (loop .done + 1)) = omega (arith, c .before .before .before .before .before .before .before .before .before .loop-test .taken) in
-    let next = times-more (a .count - loop .done) (a .count - (loop .done + 1)) (items (now (a .table)) (a .row)) more in
-    (omega (arith, c .before .before .before .before .before .before .before .before .before .loop-test .taken), search needs, search needs,
-     continues-trans (loop .inv .3) (continues-trans (continues-same next) (continues-part _ _ (row .ensures) (c .before .step .given .1))))
+    let next = times-more (a .count - loop .done) (a .count - (loop .done + 1)) (items (now (a .table)) (a .row)) more in (
+      omega (arith, c .before .before .before .before .before .before .before .before .before .loop-test .taken),
+      search needs,
+      search needs,
+      continues-trans (loop .inv .3) (continues-trans (continues-same next) (continues-part _ _ (row .ensures) (c .before .step .given .1))),
+    )
 
 read-run-returns-2 :
     (t : ℕ) →
@@ -301,7 +307,7 @@ read-run-returns-2 :
     (read-run-known t) (read-run-at t) read-run.Post
     read-run-Inv-loop
     read-run-μ-loop
-read-run-returns-2 t c = 
+read-run-returns-2 t c =
     let a = c .before .before .before .before .before .args in
     let loop = c .before .loop in
     continues-end (continues-trans (loop .inv .3) (continues-same (times-none (a .count - loop .done) (items (now (a .table)) (a .row)) (omega arith))))

@@ -20,7 +20,7 @@ same-length : tie.Need-same-length
 same-length c = search needs
 
 returns : tie.Need-returns
-returns c = 
+returns c =
     let r = c .before .before .before .read-packed .ensures in
     (c .told .ensures ∙ ap told (r .0), r .1)
 

@@ -1,51 +1,50 @@
--- `values::clear_octets` meets its contract. The invariant: what is passed from the index on is zero, and the rest stands as it was.
-use Prim.Native.Nat.{_≤_, _-_}
-use mathlib.Core.Path.{_≡_, refl}
-use native.Mathlib.Nat.{le-refl}
+-- `values::clear_octets` meets its contract. The invariant: to zero what stands now from the start of a block on is to zero what the
+-- call was lent.
+use Prim.Native.Nat.{_-_}
+use mathlib.Core.Path.{_∙_}
 use native.Mathlib.Omega.{arith}
 use borrow.Author.Needs.{needs}
 use denote.Ref.{now}
-use lib.ListN.{length, length-set}
-use Rattle.values.proofs.Fill.{Filled, fill-none, fill-more, fill-all}
+use lib.ListN.{length}
+use Rattle.values.proofs.Fill.{Filling, filling-none, filling-more, filling-done, filled-to-end}
 use Rattle.values.proofs.clear_octets.Statement.{statement}
 use Rattle.values.proofs.clear_octets.Tie as tie
 
 abbrev Inv-loop : tie.InvT-loop
-Inv-loop octets₀ from at₀ octets at = (length octets ≡ length octets₀) × (from ≤ at) × (at ≤ length octets) × Filled octets₀ from 0 octets at
+Inv-loop octets₀ from start₀ octets start = Filling 0 octets₀ from (length octets₀) octets start
 
 abbrev μ-loop : tie.MeasureT-loop
-μ-loop octets₀ from at₀ octets at = length octets - at
+μ-loop octets₀ from start₀ octets start = length octets₀ - start
 
 loop-holds : tie.Need-loop-holds Inv-loop μ-loop
-loop-holds c = (refl, le-refl _, c .pre, fill-none (now (c .args .octets)) (c .args .from) 0)
+loop-holds c = filling-none 0 (now (c .before .args .octets)) (c .before .args .from) (length (now (c .before .args .octets))) (c .before .pre)
 
-slice-write-octets : tie.Need-slice-write-octets Inv-loop μ-loop
-slice-write-octets c = search needs
+block-end-requires : tie.Need-block-end-requires Inv-loop μ-loop
+block-end-requires c κs = search needs
 
-add-at : tie.Need-add-at Inv-loop μ-loop
-add-at c = search needs
+clear-octet-block-requires : tie.Need-clear-octet-block-requires Inv-loop μ-loop
+clear-octet-block-requires c κs = search needs
 
 loop-less : tie.Need-loop-less Inv-loop μ-loop
-loop-less c = simp length-set (omega arith)
+loop-less c = omega arith
 
 loop-again : tie.Need-loop-again Inv-loop μ-loop
 loop-again c =
-    let l = c .before .loop in
-    let a = c .before .before .args in (
-      simp length-set (l .inv .0),
-      omega arith,
-      simp length-set (omega arith),
-      fill-more (now (a .octets)) (a .from) 0 (l .octets) (l .at) (l .inv .1) (c .loop-test .taken) (l .inv .3),
-    )
+    let a = c .before .before .before .before .before .before .before .before .args in
+    let l = c .before .before .before .before .before .before .loop in
+    let all = length (now (a .octets)) in
+    filling-more 0 (now (a .octets)) (a .from) all (l .octets) _ (l .start) _ (omega arith) (omega arith) (omega arith) (l .inv) (c .before .before .clear-octet-block .ensures)
 
 same-length : tie.Need-same-length Inv-loop μ-loop
 same-length c = search needs
 
 returns : tie.Need-returns Inv-loop μ-loop
 returns c =
+    let a = c .before .before .before .args in
     let l = c .before .loop in
-    let a = c .before .before .args in
-    fill-all (now (a .octets)) (a .from) 0 (l .octets) (l .at) (c .loop-test .left) (l .inv .2) (l .inv .0) (l .inv .3)
+    let all = length (now (a .octets)) in
+    filling-done 0 (now (a .octets)) (a .from) all (l .octets) (l .start) (omega arith) (l .inv)
+    ∙ filled-to-end 0 (now (a .octets)) (a .from)
 
 pub clear-octets-spec : {M : Type 1} → statement M
 clear-octets-spec =
@@ -54,8 +53,8 @@ clear-octets-spec =
     Inv-loop
     μ-loop
     loop-holds
-    slice-write-octets
-    add-at
+    block-end-requires
+    clear-octet-block-requires
     loop-less
     loop-again
     same-length

@@ -1,55 +1,51 @@
--- `values::clear_values` meets its contract. The invariant: what is passed from the index on is zero, and the rest stands as it was.
-use Prim.Native.Nat.{_≤_, _-_}
-use mathlib.Core.Path.{_≡_, refl}
-use native.Mathlib.Nat.{le-refl}
+-- `values::clear_values` meets its contract. The invariant: to zero what stands now from the start of a block on is to zero what the
+-- call was lent.
+use Prim.Native.Nat.{_-_}
+use mathlib.Core.Path.{_∙_}
 use native.Mathlib.Omega.{arith}
 use borrow.Author.Needs.{needs}
 use denote.Ref.{now}
 use lib.IntN.{pos}
-use lib.ListN.{length, length-set}
-use Rattle.values.proofs.Fill.{Filled, fill-none, fill-more, fill-all}
+use lib.ListN.{length}
+use Rattle.values.proofs.Fill.{Filling, filling-none, filling-more, filling-done, filled-to-end}
 use Rattle.values.proofs.clear_values.Statement.{statement}
 use Rattle.values.proofs.clear_values.Tie as tie
 
 abbrev Inv-loop : tie.InvT-loop
-Inv-loop values₀ from index₀ values index = (length values ≡ length values₀) × (from ≤ index) × (index ≤ length values) × Filled values₀ from (pos 0) values index
+Inv-loop values₀ from start₀ values start = Filling (pos 0) values₀ from (length values₀) values start
 
 abbrev μ-loop : tie.MeasureT-loop
-μ-loop values₀ from index₀ values index = length values - index
+μ-loop values₀ from start₀ values start = length values₀ - start
 
 loop-holds : tie.Need-loop-holds Inv-loop μ-loop
-loop-holds c = (refl, le-refl _, c .pre, fill-none (now (c .args .values)) (c .args .from) (pos 0))
+loop-holds c = filling-none (pos 0) (now (c .args .values)) (c .args .from) (length (now (c .args .values))) (c .pre)
 
-mul-values : tie.Need-mul-values Inv-loop μ-loop
-mul-values c = search needs
+block-end-requires : tie.Need-block-end-requires Inv-loop μ-loop
+block-end-requires c κs = search needs
 
-slice-set-of-values : tie.Need-slice-set-of-values Inv-loop μ-loop
-slice-set-of-values c = search needs
-
-add-index : tie.Need-add-index Inv-loop μ-loop
-add-index c = search needs
+clear-value-block-requires : tie.Need-clear-value-block-requires Inv-loop μ-loop
+clear-value-block-requires c κs = search needs
 
 loop-less : tie.Need-loop-less Inv-loop μ-loop
-loop-less c = simp length-set (omega arith)
+loop-less c = omega arith
 
 loop-again : tie.Need-loop-again Inv-loop μ-loop
 loop-again c =
-    let l = c .before .loop in
-    let a = c .before .before .args in (
-      simp length-set (l .inv .0),
-      omega arith,
-      simp length-set (omega arith),
-      fill-more (now (a .values)) (a .from) (pos 0) (l .values) (l .index) (l .inv .1) (c .loop-test .taken) (l .inv .3),
-    )
+    let a = c .before .before .before .before .before .before .args in
+    let l = c .before .before .before .before .before .loop in
+    let all = length (now (a .values)) in
+    filling-more (pos 0) (now (a .values)) (a .from) all (l .values) _ (l .start) _ (omega arith) (omega arith) (omega arith) (l .inv) (c .before .clear-value-block .ensures)
 
 same-length : tie.Need-same-length Inv-loop μ-loop
 same-length c = search needs
 
 returns : tie.Need-returns Inv-loop μ-loop
 returns c =
-    let l = c .before .loop in
     let a = c .before .before .args in
-    fill-all (now (a .values)) (a .from) (pos 0) (l .values) (l .index) (c .loop-test .left) (l .inv .2) (l .inv .0) (l .inv .3)
+    let l = c .before .loop in
+    let all = length (now (a .values)) in
+    filling-done (pos 0) (now (a .values)) (a .from) all (l .values) (l .start) (omega arith) (l .inv)
+    ∙ filled-to-end (pos 0) (now (a .values)) (a .from)
 
 pub clear-values-spec : {M : Type 1} → statement M
 clear-values-spec =
@@ -58,9 +54,8 @@ clear-values-spec =
     Inv-loop
     μ-loop
     loop-holds
-    mul-values
-    slice-set-of-values
-    add-index
+    block-end-requires
+    clear-value-block-requires
     loop-less
     loop-again
     same-length

@@ -26,7 +26,7 @@ refused-requires : tie.Need-refused-requires
 refused-requires c κs = search needs
 
 returns : tie.Need-returns
-returns c = 
+returns c =
     let a = c .before .before .before .before .before .before .args in
     c .refused .ensures ∙ other-size (now (a .message)) (a .end) (λ e. c .before .if1 .taken (e ∙ sym (c .before .before .before .holding .ensures)))
 
@@ -52,7 +52,7 @@ refused-requires-2 : tie.Need-refused-requires-2
 refused-requires-2 c κs = search needs
 
 returns-2 : tie.Need-returns-2
-returns-2 c = 
+returns-2 c =
     let a = c .before .before .before .before .before .before .before .before .before .before .before .args in
     absurd (omega (arith, fetched-Short (now (a .message)) (a .end .place .0) _ (sym (c .before .before .before .fetch .ensures) ∙ c .before .enum-told .given .1), c .before .before .before .before .before .after .ensures))
 
@@ -60,7 +60,7 @@ refused-requires-3 : tie.Need-refused-requires-3
 refused-requires-3 c κs = search needs
 
 returns-3 : tie.Need-returns-3
-returns-3 c = 
+returns-3 c =
     let a = c .before .before .before .before .before .before .before .before .before .before .before .before .before .args in
     let m = now (a .message) in
     let p = a .end .place .0 in
@@ -72,7 +72,7 @@ accepted-requires : tie.Need-accepted-requires
 accepted-requires c κs = search needs
 
 returns-4 : tie.Need-returns-4
-returns-4 c = 
+returns-4 c =
     let a = c .before .before .before .before .before .before .before .before .before .before .before .before .before .args in
     let m = now (a .message) in
     let p = a .end .place .0 in

@@ -18,7 +18,7 @@ use Rattle.codec.proofs.reading.refused.Reads as refused-reads
 use Rattle.reader.proofs.read_row.Reads as read-row-reads
 
 read-row-requires : tie.Need-read-row-requires
-read-row-requires c κs = 
+read-row-requires c κs =
     let s = c .before .before .before .before .before in
     (s .pre .0, rw (s .pre .1) (root-is (now (s .args .table)) (s .pre .0) .starts), s .pre .3)
 
@@ -39,7 +39,7 @@ same-length-2 c = search needs
 
 returns : tie.Need-returns
 unfolding asks
-returns c = 
+returns c =
     let s = c .before .before .before .before .before .before .before .before .before .before .before .before in
     let a = s .args in
     let t = now (a .table) in
@@ -49,7 +49,7 @@ returns c =
 
 close-requires : tie.Need-close-requires
 unfolding asks
-close-requires c κs = 
+close-requires c κs =
     let s = c .before .before .before .before .before .before .before .before .before .before .before .before in
     let a = s .args in
     let t = now (a .table) in
@@ -64,7 +64,7 @@ same-length-4 c = search needs
 
 returns-2 : tie.Need-returns-2
 unfolding asks
-returns-2 c = 
+returns-2 c =
     let s = c .before .before .before .before .before .before .before .before .before .before .before .before .before in
     let a = s .args in
     let t = now (a .table) in

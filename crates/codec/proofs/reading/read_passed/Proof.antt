@@ -19,7 +19,7 @@ refused-requires : tie.Need-refused-requires
 refused-requires c κs = search needs
 
 returns : tie.Need-returns
-returns c = 
+returns c =
     let a = c .before .before .before .before .before .args in
     rw (lt-leb (length (now (a .message))) 65535 (c .before .if1 .taken)) (c .refused .ensures, tt, tt)
 
@@ -27,7 +27,7 @@ refused-requires-2 : tie.Need-refused-requires-2
 refused-requires-2 c κs = search needs
 
 returns-2 : tie.Need-returns-2
-returns-2 c = 
+returns-2 c =
     let a = c .before .before .before .before .before .before .args in
     rw (empty-outcome (now (a .table)) (now (a .message)) (a .room) (c .before .if2 .taken)) (c .refused2 .ensures, tt, tt)
 
@@ -41,7 +41,7 @@ same-length-2 : tie.Need-same-length-2
 same-length-2 c = search needs
 
 returns-3 : tie.Need-returns-3
-returns-3 c = 
+returns-3 c =
     let a = c .before .before .before .before .before .before .before .before .before .before .before .args in
     rw (le-leb (length (now (a .message))) 65535 (omega arith)) (c .before .before .before .read-message .ensures)
 

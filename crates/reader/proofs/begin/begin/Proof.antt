@@ -1,23 +1,11 @@
 -- `reader::begin::begin` meets its contract. By the kind of the row.
 -- Assumes nothing.
-use Prim.Native.Nat.{ℕ, suc, _+_, _-_, _*_, _/_, _%_, _^_, _≤_, _<_}
-use mathlib.Core.Path.{_≡_, refl, sym, ap, ap₂, _∙_, subst}
-use mathlib.Core.List.{List, map, _++_}
-use mathlib.Core.Bool.{Bool, true, false}
+use Prim.Native.Nat.{_+_}
+use mathlib.Core.Path.{_≡_, sym, _∙_}
 use native.Mathlib.Omega.{arith}
 use denote.Ref.{now}
-use lib.IntN.{ℤ, pos}
-use lib.ListN.{length, getD, drop}
-use Rattle.octets.specs.Numbers.{u16, u16s}
-use Rattle.item.specs.Code.{Code, number, lengthWithin, index, natural}
-use Rattle.item.specs.Answers.{itemAt, branchesAt}
-use Rattle.encoding.specs.Items.{Items, stop, ask, one, times}
-use Rattle.encoding.specs.Rows.{presence, fields, items}
-use Rattle.reader.specs.Reads.{State, stateAt, Reads, Continues, valueOf, countOf}
-use Rattle.reader.specs.Begins.{Begins, markedFields, wholeOf}
-use mathlib.Core.Logic.{_≢_}
-use Rattle.item.specs.Code.{variable}
-use Rattle.octets.specs.Numbers.{u32, signed}
+use Rattle.octets.specs.Numbers.{u16}
+use Rattle.encoding.specs.Rows.{items}
 use Rattle.table.proofs.Obeyed.{row-starts-inside, number-row, variable-row, fixed-row, last-kind}
 use Rattle.encoding.proofs.RowItems.{items-number, items-variable, items-fixed}
 use Rattle.reader.proofs.Flow.{continues-same}
@@ -25,26 +13,17 @@ use Rattle.reader.proofs.Beginnings.{begins-same}
 use borrow.Author.Needs.{needs}
 use Rattle.reader.proofs.begin.begin.Statement.{statement}
 use Rattle.reader.proofs.begin.begin.Tie as tie
-use Rattle.reader.proofs.begin.begin.Reads as reads
-use Rattle.reader.proofs.begin.begin.Lts as lts
-use Rattle.octets.proofs.u16_at.Reads as u16-at-reads
-use Rattle.reader.proofs.begin.begin_choice.Reads as begin-choice-reads
-use Rattle.reader.proofs.begin.begin_counted.Reads as begin-counted-reads
-use Rattle.reader.proofs.begin.begin_number.Reads as begin-number-reads
-use Rattle.reader.proofs.begin.begin_octets.Reads as begin-octets-reads
-use Rattle.reader.proofs.begin.begin_record.Reads as begin-record-reads
-use Rattle.reader.proofs.begin.begin_variable.Reads as begin-variable-reads
 
 add-u16-at : tie.Need-add-u16-at
 add-u16-at c = search needs
 
 u16-at-requires : tie.Need-u16-at-requires
-u16-at-requires c κs = 
+u16-at-requires c κs =
     let s = c .before .before .before in
     omega (arith, row-starts-inside (s .pre .0) (s .pre .1) .0)
 
 begin-number-requires : tie.Need-begin-number-requires
-begin-number-requires c κs = 
+begin-number-requires c κs =
     let s = c .before .before .before .before .before .before .before in
     let k = sym (c .before .before .before .u16-at .ensures .0) ∙ c .before .before .match .keys1 in
     (number-row (s .pre .0) (s .pre .1) k .1, s .pre .2)
@@ -56,7 +35,7 @@ add-u16-at-2 : tie.Need-add-u16-at-2
 add-u16-at-2 c = search needs
 
 u16-at-requires-2 : tie.Need-u16-at-requires-2
-u16-at-requires-2 c κs = 
+u16-at-requires-2 c κs =
     let s = c .before .before .before .before .before in
     let k = sym (c .before .u16-at .ensures .0) ∙ c .match .keys3 in
     omega (arith, fixed-row (s .pre .0) (s .pre .1) k .1)
@@ -65,7 +44,7 @@ add-u16-at-3 : tie.Need-add-u16-at-3
 add-u16-at-3 c = search needs
 
 u16-at-requires-3 : tie.Need-u16-at-requires-3
-u16-at-requires-3 c κs = 
+u16-at-requires-3 c κs =
     let s = c .before .before .before .before .before .before in
     let k = sym (c .before .before .u16-at .ensures .0) ∙ c .before .match .keys3 in
     omega (arith, fixed-row (s .pre .0) (s .pre .1) k .1)
@@ -80,7 +59,7 @@ begin-choice-requires : tie.Need-begin-choice-requires
 begin-choice-requires c κs = search needs
 
 begin-octets-requires : tie.Need-begin-octets-requires
-begin-octets-requires c κs = 
+begin-octets-requires c κs =
     let s = c .before .before .before .before .before .before .before in
     let a = s .args in
     let t = now (a .table) in
@@ -95,7 +74,7 @@ same-length-2 : tie.Need-same-length-2
 same-length-2 c = search needs
 
 returns : tie.Need-returns
-returns c = 
+returns c =
     let s = c .before .before .before .before .before .before .before .before .before .before .before in
     let a = s .args in
     let t = now (a .table) in
@@ -109,7 +88,7 @@ same-length-4 : tie.Need-same-length-4
 same-length-4 c = search needs
 
 returns-2 : tie.Need-returns-2
-returns-2 c = 
+returns-2 c =
     let s = c .before .before .before .before .before .before .before .before .before .before .before in
     let a = s .args in
     let t = now (a .table) in
@@ -117,7 +96,7 @@ returns-2 c =
     begins-same t (a .at) (now (a .message)) (a .room) _ (items t (a .at)) _ _ _ (c .before .before .before .begin-variable .result) (items-variable t (a .at) (variable-row (s .pre .0) (s .pre .1) k)) (c .before .before .before .begin-variable .ensures)
 
 returns-3 : tie.Need-returns-3
-returns-3 c = 
+returns-3 c =
     let s = c .before .before .before .before .before .before .before in
     let a = s .args in
     let t = now (a .table) in

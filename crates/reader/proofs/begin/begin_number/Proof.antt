@@ -1,12 +1,11 @@
 -- `reader::begin::begin_number` meets its contract. One item, read and kept; its low and span stand in the row.
 -- Assumes nothing.
-use Prim.Native.Nat.{ℕ, _+_, _≤_, _<_}
-use mathlib.Core.Path.{_≡_, sym, ap, ap₂, _∙_}
+use Prim.Native.Nat.{ℕ, _+_, _≤_}
+use mathlib.Core.Path.{_≡_, ap, ap₂, _∙_}
 use native.Mathlib.Omega.{arith}
 use denote.Ref.{now}
 use lib.IntN.{ℤ}
 use lib.Signed.{mag}
-use lib.ListN.{length}
 use mir.Syntax.{w64}
 use mir.Val.{toZ, ofZ}
 use Rattle.octets.specs.Numbers.{u32, signed}
@@ -14,18 +13,11 @@ use Rattle.octets.proofs.Numbers.{mag-signed}
 use Rattle.item.specs.Code.{number}
 use Rattle.item.specs.Answers.{itemAt}
 use Rattle.reader.specs.Reads.{stateAt}
-use Rattle.reader.proofs.Naturals.{held}
+use Rattle.parts.proofs.Naturals.{held}
 use Rattle.reader.proofs.Beginnings.{begins-one}
 use borrow.Author.Needs.{needs}
 use Rattle.reader.proofs.begin.begin_number.Statement.{statement}
 use Rattle.reader.proofs.begin.begin_number.Tie as tie
-use Rattle.reader.proofs.begin.begin_number.Reads as reads
-use Rattle.reader.proofs.begin.begin_number.Lts as lts
-use Rattle.item.proofs.read.number.Reads as number-reads
-use Rattle.octets.proofs.signed_of.Reads as signed-of-reads
-use Rattle.octets.proofs.u32_at.Reads as u32-at-reads
-use Rattle.reader.proofs.begin.kept.Reads as kept-reads
-use Rattle.reader.proofs.begin.whole.Reads as whole-reads
 
 add-u32-at : tie.Need-add-u32-at
 add-u32-at c = search needs
@@ -46,7 +38,7 @@ cast-number : tie.Need-cast-number
 cast-number c = search needs
 
 number-requires : tie.Need-number-requires
-number-requires c κs = 
+number-requires c κs =
     let z = c .before .signed-of .result in
     let n = c .before .before .u32-at .result in
     let small : mag z ≤ 2147483648 = rw (c .before .signed-of .ensures) (mag-signed n (c .before .before .u32-at .ensures .1)) in
@@ -65,7 +57,7 @@ same-length-2 : tie.Need-same-length-2
 same-length-2 c = search needs
 
 returns : tie.Need-returns
-returns c = 
+returns c =
     let a = c .before .before .before .before .before .before .before .before .before .before .before .before .before .before .args in
     let kept = c .before .before .before .before .kept in
     let item = c .before .before .before .before .before .before .before .number in

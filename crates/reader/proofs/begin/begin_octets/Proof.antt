@@ -1,40 +1,28 @@
 -- `reader::begin::begin_octets` meets its contract. A length, read and kept; then the octets.
 -- Assumes nothing.
-use Prim.Native.Nat.{ℕ, suc, _+_, _-_, _*_, _/_, _%_, _^_, _≤_, _<_}
-use mathlib.Core.Path.{_≡_, refl, sym, ap, ap₂, _∙_, subst}
-use mathlib.Core.List.{List, map, _++_}
-use mathlib.Core.Bool.{Bool, true, false}
+use Prim.Native.Nat.{ℕ, _+_}
+use mathlib.Core.Path.{ap, _∙_}
 use native.Mathlib.Omega.{arith}
 use denote.Ref.{now}
-use lib.IntN.{ℤ, pos}
-use lib.ListN.{length, getD, drop}
-use Rattle.octets.specs.Numbers.{u16, u16s}
-use Rattle.item.specs.Code.{Code, number, lengthWithin, index, natural}
-use Rattle.item.specs.Answers.{itemAt, branchesAt}
-use Rattle.encoding.specs.Items.{Items, stop, ask, one, times}
-use Rattle.encoding.specs.Rows.{presence, fields, items}
-use Rattle.reader.specs.Reads.{State, stateAt, Reads, Continues, valueOf, countOf}
-use Rattle.reader.specs.Begins.{Begins, markedFields, wholeOf}
+use lib.IntN.{pos}
+use Rattle.octets.specs.Numbers.{u16}
+use Rattle.item.specs.Code.{number, lengthWithin, natural}
+use Rattle.item.specs.Answers.{itemAt}
+use Rattle.encoding.specs.Items.{one, times}
+use Rattle.encoding.specs.Rows.{items}
+use Rattle.reader.specs.Reads.{stateAt}
 use Rattle.table.proofs.Obeyed.{octets-row}
 use Rattle.encoding.proofs.RowItems.{items-octets}
 use Rattle.reader.proofs.Beginnings.{begins-refused, continues-first, begins-reads}
 use borrow.Author.Needs.{needs}
 use Rattle.reader.proofs.begin.begin_octets.Statement.{statement}
 use Rattle.reader.proofs.begin.begin_octets.Tie as tie
-use Rattle.reader.proofs.begin.begin_octets.Reads as reads
-use Rattle.reader.proofs.begin.begin_octets.Lts as lts
-use Rattle.item.proofs.read.length.Reads as length-reads
-use Rattle.octets.proofs.u16_at.Reads as u16-at-reads
-use Rattle.reader.proofs.begin.count_of.Reads as count-of-reads
-use Rattle.reader.proofs.begin.kept.Reads as kept-reads
-use Rattle.reader.proofs.begin.read_octets.Reads as read-octets-reads
-use Rattle.reader.proofs.begin.whole.Reads as whole-reads
 
 add-u16-at : tie.Need-add-u16-at
 add-u16-at c = search needs
 
 u16-at-requires : tie.Need-u16-at-requires
-u16-at-requires c κs = 
+u16-at-requires c κs =
     let s = c .before .before .before in
     omega (arith, octets-row (s .pre .0) (s .pre .1) (s .pre .2) .1)
 
@@ -63,7 +51,7 @@ same-length-2 : tie.Need-same-length-2
 same-length-2 c = search needs
 
 returns : tie.Need-returns
-returns c = 
+returns c =
     let s = c .before .before .before .before .before .before .before .before .before .before .before .before .before .before in
     let a = s .args in
     let row = octets-row (s .pre .0) (s .pre .1) (s .pre .2) in
@@ -73,8 +61,8 @@ returns c =
     let ei = item .ensures ∙ ap (λ (n : ℕ). itemAt (lengthWithin 0 n) m (a .cursor .place .0)) (c .before .before .before .before .before .before .before .before .before .before .u16-at .ensures .0) in
     rw (c .whole .ensures)
     (begins-refused (now (a .table)) (a .at) m (a .room) (items (now (a .table)) (a .at)) (stateAt (a .cursor) (now (a .values)) (now (a .packed))) _ _
-      (lengthWithin 0 (u16 (now (a .table)) (a .at + 4))) (λ v. times (natural v) (one (number (pos 0) 255))) (item .result) (kept .result) _
-      (items-octets (now (a .table)) (a .at) 0 _ (row .0)) ei (kept .ensures .0) (c .before .enum-told .given .1))
+    (lengthWithin 0 (u16 (now (a .table)) (a .at + 4))) (λ v. times (natural v) (one (number (pos 0) 255))) (item .result) (kept .result) _
+    (items-octets (now (a .table)) (a .at) 0 _ (row .0)) ei (kept .ensures .0) (c .before .enum-told .given .1))
 
 count-of-requires : tie.Need-count-of-requires
 count-of-requires c κs = search needs
@@ -92,7 +80,7 @@ same-length-4 : tie.Need-same-length-4
 same-length-4 c = search needs
 
 returns-2 : tie.Need-returns-2
-returns-2 c = 
+returns-2 c =
     let s = c .before .before .before .before .before .before .before .before .before .before .before .before .before .before .before .before .before .before .before .before .before .before in
     let a = s .args in
     let row = octets-row (s .pre .0) (s .pre .1) (s .pre .2) in
@@ -103,11 +91,11 @@ returns-2 c =
     let from = stateAt (a .cursor) (now (a .values)) (now (a .packed)) in
     let ei = item .ensures ∙ ap (λ (n : ℕ). itemAt (lengthWithin 0 n) m (a .cursor .place .0)) (c .before .before .before .before .before .before .before .before .before .before .before .before .before .before .before .before .before .before .u16-at .ensures .0) in
     let first = continues-first m (a .room) (items (now (a .table)) (a .at)) from _ _
-      (lengthWithin 0 (u16 (now (a .table)) (a .at + 4))) (λ v. times (natural v) (one (number (pos 0) 255))) (item .result) (kept .result) _
-      (items-octets (now (a .table)) (a .at) 0 _ (row .0)) ei (kept .ensures .0) (c .before .before .before .before .before .before .before .before .before .step .given .1) (kept .ensures .1) (kept .ensures .2) in
+    (lengthWithin 0 (u16 (now (a .table)) (a .at + 4))) (λ v. times (natural v) (one (number (pos 0) 255))) (item .result) (kept .result) _
+    (items-octets (now (a .table)) (a .at) 0 _ (row .0)) ei (kept .ensures .0) (c .before .before .before .before .before .before .before .before .before .step .given .1) (kept .ensures .1) (kept .ensures .2) in
     rw (c .whole2 .ensures)
     (begins-reads (now (a .table)) (a .at) m (a .room) (items (now (a .table)) (a .at)) from _ _ (rest .result)
-      (first .complete _ _ (rest .result) (rw (c .before .before .before .before .before .before .before .count-of .ensures) at (rest .ensures))))
+    (first .complete _ _ (rest .result) (rw (c .before .before .before .before .before .before .before .count-of .ensures) at (rest .ensures))))
 
 pub begin-octets-spec : {M : Type 1} → statement M
 begin-octets-spec =

@@ -1,33 +1,23 @@
 -- `reader::begin::begin_record` meets its contract. Invariant: reading the record comes to reading the presence bits that are left, with the marks so far.
 -- Assumes nothing.
-use Prim.Native.Nat.{ℕ, suc, _+_, _-_, _*_, _/_, _%_, _^_, _≤_, _<_}
-use mathlib.Core.Path.{_≡_, refl, sym, ap, ap₂, _∙_, subst}
-use mathlib.Core.List.{List, map, _++_}
-use mathlib.Core.Bool.{Bool, true, false}
+use Prim.Native.Nat.{ℕ, _+_, _-_, _^_, _≤_, _<_}
+use mathlib.Core.Path.{_≡_, refl, subst}
 use native.Mathlib.Omega.{arith}
 use denote.Ref.{now}
-use lib.IntN.{ℤ, pos}
-use lib.ListN.{length, getD, drop}
-use Rattle.octets.specs.Numbers.{u16, u16s}
-use Rattle.item.specs.Code.{Code, number, lengthWithin, index, natural}
-use Rattle.item.specs.Answers.{itemAt, branchesAt}
-use Rattle.encoding.specs.Items.{Items, stop, ask, one, times}
+use lib.ListN.{length}
+use Rattle.octets.specs.Numbers.{u16}
 use Rattle.encoding.specs.Rows.{items}
-use Rattle.reader.specs.Reads.{State, stateAt, Reads, Continues, valueOf, countOf}
-use Rattle.reader.specs.Begins.{Begins, markedFields}
+use Rattle.reader.specs.Reads.{stateAt, Continues}
 use Rattle.table.proofs.Obeyed.{record-row}
 use Rattle.reader.proofs.Flow.{continues-trans, continues-same}
-use Rattle.reader.proofs.Records.{leftAfter, record-start, record-end, mask-lt, marked-lt, marked-on, no-mark}
+use Rattle.parts.proofs.Records.{leftAfter, record-start, record-end, mask-lt, marked-lt}
+use Rattle.reader.proofs.Records.{marked-on, no-mark}
 use borrow.Author.Needs.{needs}
 use Rattle.reader.proofs.begin.begin_record.Statement.{statement}
 use Rattle.reader.proofs.begin.begin_record.Tie as tie
-use Rattle.reader.proofs.begin.begin_record.Reads as reads
-use Rattle.reader.proofs.begin.begin_record.Lts as lts
-use Rattle.octets.proofs.u16_at.Reads as u16-at-reads
-use Rattle.reader.proofs.begin.mark.Reads as mark-reads
 
 abbrev Inv-loop : tie.InvT-loop
-Inv-loop table at message values₀ packed₀ room fields field₀ mask₀ here₀ values packed field mask here = 
+Inv-loop table at message values₀ packed₀ room fields field₀ mask₀ here₀ values packed field mask here =
     (field ≤ fields) × (length values ≡ length values₀) × (length packed ≡ length packed₀) × (mask < 2 ^ field)
     × Continues message room (items table at) (stateAt here₀ values₀ packed₀) (leftAfter table at field mask) (stateAt here values packed)
 
@@ -38,38 +28,38 @@ add-u16-at : tie.Need-add-u16-at Inv-loop μ-loop
 add-u16-at c = search needs
 
 u16-at-requires : tie.Need-u16-at-requires Inv-loop μ-loop
-u16-at-requires c κs = 
+u16-at-requires c κs =
     let s = c .before .before .before in
     let row = record-row (s .pre .0) (s .pre .1) (s .pre .2) in omega (arith, row .inside)
 
 loop-holds : tie.Need-loop-holds Inv-loop μ-loop
-loop-holds c = 
+loop-holds c =
     let s = c .before .before .before .before in
     let row = record-row (s .pre .0) (s .pre .1) (s .pre .2) in
     (omega arith, refl, refl, omega arith, continues-same (record-start (s .pre .0) (s .pre .1) (s .pre .2)))
 
 add-u16-at-2 : tie.Need-add-u16-at-2 Inv-loop μ-loop
-add-u16-at-2 c = 
+add-u16-at-2 c =
     let s = c .before .before .before .before .before .before in
     let row = record-row (s .pre .0) (s .pre .1) (s .pre .2) in let e = c .before .before .u16-at .ensures .0 in omega (arith, row .inside)
 
 mul-u16-at : tie.Need-mul-u16-at Inv-loop μ-loop
-mul-u16-at c = 
+mul-u16-at c =
     let s = c .before .before .before .before .before .before in
     let row = record-row (s .pre .0) (s .pre .1) (s .pre .2) in let e = c .before .before .u16-at .ensures .0 in omega (arith, row .most)
 
 add-u16-at-3 : tie.Need-add-u16-at-3 Inv-loop μ-loop
-add-u16-at-3 c = 
+add-u16-at-3 c =
     let s = c .before .before .before .before .before .before in
     let row = record-row (s .pre .0) (s .pre .1) (s .pre .2) in let e = c .before .before .u16-at .ensures .0 in omega (arith, row .inside, s .pre .0 .most)
 
 u16-at-requires-2 : tie.Need-u16-at-requires-2 Inv-loop μ-loop
-u16-at-requires-2 c κs = 
+u16-at-requires-2 c κs =
     let s = c .before .before .before .before .before .before in
     let row = record-row (s .pre .0) (s .pre .1) (s .pre .2) in let e = c .before .before .u16-at .ensures .0 in omega (arith, row .inside)
 
 mark-requires : tie.Need-mark-requires Inv-loop μ-loop
-mark-requires c κs = 
+mark-requires c κs =
     let s = c .before .before .before .before .before .before .before .before .before in
     let row = record-row (s .pre .0) (s .pre .1) (s .pre .2) in
     let loop = c .before .before .before .before .loop in
@@ -86,7 +76,7 @@ same-length-2 : tie.Need-same-length-2 Inv-loop μ-loop
 same-length-2 c = search needs
 
 returns : tie.Need-returns Inv-loop μ-loop
-returns c = 
+returns c =
     let s = c .before .before .before .before .before .before .before .before .before .before .before .before .before .before in
     let row = record-row (s .pre .0) (s .pre .1) (s .pre .2) in
     let a = s .args in
@@ -102,7 +92,7 @@ loop-less : tie.Need-loop-less Inv-loop μ-loop
 loop-less c = search needs
 
 loop-again : tie.Need-loop-again Inv-loop μ-loop
-loop-again c = 
+loop-again c =
     let s = c .before .before .before .before .before .before .before .before .before .before .before .before .before .before .before .before in
     let row = record-row (s .pre .0) (s .pre .1) (s .pre .2) in
     let a = s .args in
@@ -110,9 +100,13 @@ loop-again c =
     let mark = c .before .before .before .before .before .before .mark in
     let e = c .before .before .before .before .before .before .before .before .before .before .before .before .u16-at .ensures .0 in
     let m = rw (c .before .begun .given .1) at (mark .ensures) in
-    let l : loop .field < u16 (now (a .table)) (a .at + 4) = omega (arith, e, c .before .before .before .before .before .before .before .before .before .before .loop-test .taken) in
-    (omega (arith, c .before .before .before .before .before .before .before .before .before .before .loop-test .taken), search needs, search needs, marked-lt (loop .field) (loop .mask) _ (loop .inv .3) (m .0),
-     marked-on (now (a .table)) (a .at) (loop .field) _ (loop .mask) _ _ _ _ l (loop .inv .3) (c .before .before .before .before .before .before .before .before .before .u16-at2 .ensures .0) (loop .inv .4) m)
+    let l : loop .field < u16 (now (a .table)) (a .at + 4) = omega (arith, e, c .before .before .before .before .before .before .before .before .before .before .loop-test .taken) in (
+      omega (arith, c .before .before .before .before .before .before .before .before .before .before .loop-test .taken),
+      search needs,
+      search needs,
+      marked-lt (loop .field) (loop .mask) _ (loop .inv .3) (m .0),
+      marked-on (now (a .table)) (a .at) (loop .field) _ (loop .mask) _ _ _ _ l (loop .inv .3) (c .before .before .before .before .before .before .before .before .before .u16-at2 .ensures .0) (loop .inv .4) m,
+    )
 
 same-length-3 : tie.Need-same-length-3 Inv-loop μ-loop
 same-length-3 c = search needs
@@ -121,14 +115,16 @@ same-length-4 : tie.Need-same-length-4 Inv-loop μ-loop
 same-length-4 c = search needs
 
 returns-2 : tie.Need-returns-2 Inv-loop μ-loop
-returns-2 c = 
+returns-2 c =
     let s = c .before .before .before .before .before .before in
     let row = record-row (s .pre .0) (s .pre .1) (s .pre .2) in
     let a = s .args in
     let loop = c .before .loop in
-    let e : loop .field ≡ u16 (now (a .table)) (a .at + 4) = omega (arith, c .before .before .u16-at .ensures .0) in
-    (s .pre .2, subst (λ (n : ℕ). loop .mask < 2 ^ n) e (loop .inv .3),
-     continues-trans (loop .inv .4) (continues-same (record-end (s .pre .0) (s .pre .1) (s .pre .2) (loop .field) (loop .mask) e)))
+    let e : loop .field ≡ u16 (now (a .table)) (a .at + 4) = omega (arith, c .before .before .u16-at .ensures .0) in (
+      s .pre .2,
+      subst (λ (n : ℕ). loop .mask < 2 ^ n) e (loop .inv .3),
+      continues-trans (loop .inv .4) (continues-same (record-end (s .pre .0) (s .pre .1) (s .pre .2) (loop .field) (loop .mask) e)),
+    )
 
 pub begin-record-spec : {M : Type 1} → statement M
 begin-record-spec =

@@ -7,11 +7,6 @@ use Rattle.reader.proofs.Beginnings.{begins-one}
 use borrow.Author.Needs.{needs}
 use Rattle.reader.proofs.begin.begin_variable.Statement.{statement}
 use Rattle.reader.proofs.begin.begin_variable.Tie as tie
-use Rattle.reader.proofs.begin.begin_variable.Reads as reads
-use Rattle.reader.proofs.begin.begin_variable.Lts as lts
-use Rattle.item.proofs.read.variable.Reads as variable-reads
-use Rattle.reader.proofs.begin.kept.Reads as kept-reads
-use Rattle.reader.proofs.begin.whole.Reads as whole-reads
 
 variable-requires : tie.Need-variable-requires
 variable-requires c κs = search needs
@@ -29,7 +24,7 @@ same-length-2 : tie.Need-same-length-2
 same-length-2 c = search needs
 
 returns : tie.Need-returns
-returns c = 
+returns c =
     let a = c .before .before .before .before .before .before .before .before .before .before .before .args in
     let kept = c .before .before .before .before .kept in
     let item = c .before .before .before .before .before .before .before .variable in

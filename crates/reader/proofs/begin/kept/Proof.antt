@@ -1,14 +1,11 @@
 -- `reader::begin::kept` meets its contract. By the item, and by the room.
 -- Assumes nothing.
 use borrow.Author.Tests.{le-leb, lt-leb}
-use mathlib.Core.Path.{_≡_, refl, ap, _∙_}
-use Rattle.reader.proofs.Naturals.{held}
+use mathlib.Core.Path.{refl}
+use Rattle.parts.proofs.Naturals.{held}
 use borrow.Author.Needs.{needs}
 use Rattle.reader.proofs.begin.kept.Statement.{statement}
 use Rattle.reader.proofs.begin.kept.Tie as tie
-use Rattle.reader.proofs.begin.kept.Reads as reads
-use Rattle.reader.proofs.begin.kept.Lts as lts
-use Rattle.values.proofs.keep.Reads as keep-reads
 
 enum-known-item : tie.Need-enum-known-item
 enum-known-item c = search needs
@@ -35,7 +32,7 @@ same-length-2 : tie.Need-same-length-2
 same-length-2 c = search needs
 
 returns-3 : tie.Need-returns-3
-returns-3 c = 
+returns-3 c =
     let before-keep = c .before .before .before .before .before .before in
     let item = before-keep .before .before .item2 in
     let k = c .before .before .before .keep .ensures in

@@ -1,31 +1,16 @@
 -- `reader::begin::mark` meets its contract. By the flag, and by the presence bit.
 -- Assumes nothing.
-use Prim.Native.Nat.{ℕ, suc, _+_, _-_, _*_, _/_, _%_, _^_, _≤_, _<_}
-use mathlib.Core.Path.{_≡_, refl, sym, ap, ap₂, _∙_, subst}
-use mathlib.Core.List.{List, map, _++_}
-use mathlib.Core.Bool.{Bool, true, false}
+use Prim.Native.Nat.{_+_, _*_, _%_}
+use mathlib.Core.Path.{_≡_, refl, sym, _∙_}
 use native.Mathlib.Omega.{arith}
 use denote.Ref.{now}
-use lib.IntN.{ℤ, pos}
-use lib.ListN.{length, getD, drop}
-use Rattle.octets.specs.Numbers.{u16, u16s}
-use Rattle.item.specs.Code.{Code, number, lengthWithin, index, natural}
-use Rattle.item.specs.Answers.{itemAt, branchesAt}
-use Rattle.encoding.specs.Items.{Items, stop, ask, one, times}
-use Rattle.encoding.specs.Rows.{presence, fields, items}
-use Rattle.reader.specs.Reads.{State, stateAt, Reads, Continues, valueOf, countOf}
-use Rattle.reader.specs.Begins.{Begins, markedFields, wholeOf}
+use Rattle.encoding.specs.Items.{one}
+use Rattle.reader.specs.Reads.{stateAt, countOf}
 use Rattle.reader.proofs.Beginnings.{marks-always, marks-bit, marks-refused}
-use borrow.Author.Tests.{ne-eqb, eq-eqb}
+use borrow.Author.Tests.{ne-eqb}
 use borrow.Author.Needs.{needs}
 use Rattle.reader.proofs.begin.mark.Statement.{statement}
 use Rattle.reader.proofs.begin.mark.Tie as tie
-use Rattle.reader.proofs.begin.mark.Reads as reads
-use Rattle.reader.proofs.begin.mark.Lts as lts
-use Rattle.item.proofs.read.number.Reads as number-reads
-use Rattle.reader.proofs.begin.count_of.Reads as count-of-reads
-use Rattle.reader.proofs.begin.kept.Reads as kept-reads
-use Rattle.reader.proofs.begin.whole.Reads as whole-reads
 
 mul-t12 : tie.Need-mul-t12
 mul-t12 c = search needs
@@ -34,7 +19,7 @@ add-t13 : tie.Need-add-t13
 add-t13 c = search needs
 
 returns : tie.Need-returns
-returns c = 
+returns c =
     let a = c .before .before .before .args in
     marks-always (a .flag) (a .mask) (now (a .message)) (a .room) (stateAt (a .cursor) (now (a .values)) (now (a .packed))) _ (c .if1 .taken) refl
 
@@ -60,12 +45,12 @@ same-length-2 : tie.Need-same-length-2
 same-length-2 c = search needs
 
 returns-2 : tie.Need-returns-2
-returns-2 c = 
+returns-2 c =
     let a = c .before .before .before .before .before .before .before .before .before .before .before .before .before .args in
     let kept = c .before .before .before .before .before .before .kept in
     rw (c .whole .ensures)
     (marks-refused (a .flag) (a .mask) (now (a .message)) (a .room) (stateAt (a .cursor) (now (a .values)) (now (a .packed)))
-      (c .before .before .before .before .before .before .before .before .before .number .result) (kept .result) _ _ (c .before .before .before .before .before .before .before .before .before .before .if1 .left) (c .before .before .before .before .before .before .before .before .before .number .ensures) (kept .ensures .0) _ (c .before .enum-told .given .1))
+    (c .before .before .before .before .before .before .before .before .before .number .result) (kept .result) _ _ (c .before .before .before .before .before .before .before .before .before .before .if1 .left) (c .before .before .before .before .before .before .before .before .before .number .ensures) (kept .ensures .0) _ (c .before .enum-told .given .1))
 
 count-of-requires : tie.Need-count-of-requires
 count-of-requires c κs = search needs
@@ -83,15 +68,15 @@ same-length-4 : tie.Need-same-length-4
 same-length-4 c = search needs
 
 returns-3 : tie.Need-returns-3
-returns-3 c = 
+returns-3 c =
     let a = c .before .before .before .before .before .before .before .before .before .before .before .before .before .before .before .args in
     let kept = c .before .before .before .before .before .before .before .before .kept in
     let item = c .before .before .before .before .before .before .before .before .before .before .before .number in
     let odd : (a .mask * 2 + 1) % 2 ≡ 1 = omega arith in
     let one : countOf (item .result) ≡ 1 = sym (c .before .count-of .ensures) ∙ c .if2 .taken in
     marks-bit (a .flag) (a .mask) (now (a .message)) (a .room) (stateAt (a .cursor) (now (a .values)) (now (a .packed)))
-      (item .result) (kept .result) _ _ (c .before .before .before .before .before .before .before .before .before .before .before .before .if1 .left) (item .ensures) (kept .ensures .0) _ _ (c .before .before .before .step .given .1) (kept .ensures .1) (kept .ensures .2)
-      (omega arith) (rw (odd, one))
+    (item .result) (kept .result) _ _ (c .before .before .before .before .before .before .before .before .before .before .before .before .if1 .left) (item .ensures) (kept .ensures .0) _ _ (c .before .before .before .step .given .1) (kept .ensures .1) (kept .ensures .2)
+    (omega arith) (rw (odd, one))
 
 mul-t21 : tie.Need-mul-t21
 mul-t21 c = search needs
@@ -103,14 +88,14 @@ same-length-6 : tie.Need-same-length-6
 same-length-6 c = search needs
 
 returns-4 : tie.Need-returns-4
-returns-4 c = 
+returns-4 c =
     let a = c .before .before .before .before .before .before .before .before .before .before .before .before .before .before .before .args in
     let kept = c .before .before .before .before .before .before .before .before .kept in
     let item = c .before .before .before .before .before .before .before .before .before .before .before .number in
     let even : (a .mask * 2) % 2 ≡ 0 = omega arith in
     marks-bit (a .flag) (a .mask) (now (a .message)) (a .room) (stateAt (a .cursor) (now (a .values)) (now (a .packed)))
-      (item .result) (kept .result) _ _ (c .before .before .before .before .before .before .before .before .before .before .before .before .if1 .left) (item .ensures) (kept .ensures .0) _ _ (c .before .before .before .step .given .1) (kept .ensures .1) (kept .ensures .2)
-      (omega arith) (rw (even, ne-eqb (countOf (item .result)) 1 (λ e. c .if2 .left (c .before .count-of .ensures ∙ e))))
+    (item .result) (kept .result) _ _ (c .before .before .before .before .before .before .before .before .before .before .before .before .if1 .left) (item .ensures) (kept .ensures .0) _ _ (c .before .before .before .step .given .1) (kept .ensures .1) (kept .ensures .2)
+    (omega arith) (rw (even, ne-eqb (countOf (item .result)) 1 (λ e. c .if2 .left (c .before .count-of .ensures ∙ e))))
 
 pub mark-spec : {M : Type 1} → statement M
 mark-spec =

@@ -1,33 +1,22 @@
 -- `reader::begin::read_octets` meets its contract. Invariant: reading the run comes to reading what is left of it.
 -- Assumes nothing.
-use Prim.Native.Nat.{ℕ, suc, _+_, _-_, _*_, _/_, _%_, _^_, _≤_, _<_}
-use mathlib.Core.Path.{_≡_, refl, sym, ap, ap₂, _∙_, subst}
-use mathlib.Core.List.{List, map, _++_}
-use mathlib.Core.Bool.{Bool, true, false}
+use Prim.Native.Nat.{ℕ, suc, _+_, _-_, _≤_}
+use mathlib.Core.Path.{_≡_, refl, sym, ap, _∙_}
 use native.Mathlib.Omega.{arith}
-use denote.Ref.{now}
-use lib.IntN.{ℤ, pos}
-use lib.ListN.{length, getD, drop}
-use Rattle.octets.specs.Numbers.{u16, u16s}
-use Rattle.item.specs.Code.{Code, number, lengthWithin, index, natural}
-use Rattle.item.specs.Answers.{itemAt, branchesAt}
-use Rattle.encoding.specs.Items.{Items, stop, ask, one, times}
-use Rattle.encoding.specs.Rows.{presence, fields, items}
-use Rattle.reader.specs.Reads.{State, stateAt, Reads, Continues, valueOf, countOf}
-use Rattle.reader.specs.Begins.{Begins, markedFields, wholeOf}
-use Rattle.reader.specs.declared.Step.the-variants.{Past}
+use lib.IntN.{pos}
+use lib.ListN.{length}
+use Rattle.item.specs.Code.{number}
+use Rattle.encoding.specs.Items.{one, times}
+use Rattle.reader.specs.Reads.{stateAt, Continues}
 use Rattle.reader.proofs.Flow.{continues-trans, continues-same, continues-end}
-use Rattle.reader.proofs.Beginnings.{continues-run, refused-run, times-none}
+use Rattle.reader.proofs.Beginnings.{continues-run, refused-run}
+use Rattle.parts.proofs.Runs.{times-none}
 use borrow.Author.Needs.{needs}
 use Rattle.reader.proofs.begin.read_octets.Statement.{statement}
 use Rattle.reader.proofs.begin.read_octets.Tie as tie
-use Rattle.reader.proofs.begin.read_octets.Reads as reads
-use Rattle.reader.proofs.begin.read_octets.Lts as lts
-use Rattle.item.proofs.read.octet.Reads as octet-reads
-use Rattle.reader.proofs.begin.kept.Reads as kept-reads
 
 abbrev Inv-loop : tie.InvT-loop
-Inv-loop count message values₀ packed₀ room done₀ here₀ values packed done here = 
+Inv-loop count message values₀ packed₀ room done₀ here₀ values packed done here =
     (done ≤ count) × (length values ≡ length values₀) × (length packed ≡ length packed₀) × Continues message room (times count (one (number (pos 0) 255))) (stateAt here₀ values₀ packed₀) (times (count - done) (one (number (pos 0) 255))) (stateAt here values packed)
 
 abbrev μ-loop : tie.MeasureT-loop
@@ -55,7 +44,7 @@ same-length-2 : tie.Need-same-length-2 Inv-loop μ-loop
 same-length-2 c = search needs
 
 returns : tie.Need-returns Inv-loop μ-loop
-returns c = 
+returns c =
     let loop = c .before .before .before .before .before .before .before .before .before .before .loop in
     let a = c .before .before .before .before .before .before .before .before .before .before .before .before .before .args in
     let e : a .count - loop .done ≡ suc (a .count - (loop .done + 1)) = omega arith in
@@ -69,14 +58,18 @@ loop-less : tie.Need-loop-less Inv-loop μ-loop
 loop-less c = search needs
 
 loop-again : tie.Need-loop-again Inv-loop μ-loop
-loop-again c = 
+loop-again c =
     let loop = c .before .before .before .before .before .before .before .before .before .before .before .loop in
     let a = c .before .before .before .before .before .before .before .before .before .before .before .before .before .before .args in
     let kept = c .before .before .before .before .before .before .kept in
-    let e : a .count - loop .done ≡ suc (a .count - (loop .done + 1)) = omega arith in
-    (omega arith, search needs, search needs, continues-trans (loop .inv .3)
-    (continues-run (number (pos 0) 255) (a .count - loop .done) (a .count - (loop .done + 1)) (c .before .before .before .before .before .before .before .before .before .octet .result) e (c .before .before .before .before .before .before .before .before .before .octet .ensures)
-      (sym (kept .ensures .0) ∙ c .before .step .given .1) (kept .ensures .1) (kept .ensures .2)))
+    let e : a .count - loop .done ≡ suc (a .count - (loop .done + 1)) = omega arith in (
+      omega arith,
+      search needs,
+      search needs,
+      continues-trans (loop .inv .3)
+          (continues-run (number (pos 0) 255) (a .count - loop .done) (a .count - (loop .done + 1)) (c .before .before .before .before .before .before .before .before .before .octet .result) e (c .before .before .before .before .before .before .before .before .before .octet .ensures)
+          (sym (kept .ensures .0) ∙ c .before .step .given .1) (kept .ensures .1) (kept .ensures .2)),
+    )
 
 same-length-3 : tie.Need-same-length-3 Inv-loop μ-loop
 same-length-3 c = search needs
@@ -85,7 +78,7 @@ same-length-4 : tie.Need-same-length-4 Inv-loop μ-loop
 same-length-4 c = search needs
 
 returns-2 : tie.Need-returns-2 Inv-loop μ-loop
-returns-2 c = 
+returns-2 c =
     let loop = c .before .loop in
     let a = c .before .before .before .before .args in
     continues-end (continues-trans (loop .inv .3) (continues-same (times-none (a .count - loop .done) (one (number (pos 0) 255)) (omega arith))))

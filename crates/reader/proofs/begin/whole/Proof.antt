@@ -3,8 +3,6 @@
 use borrow.Author.Needs.{needs}
 use Rattle.reader.proofs.begin.whole.Statement.{statement}
 use Rattle.reader.proofs.begin.whole.Tie as tie
-use Rattle.reader.proofs.begin.whole.Reads as reads
-use Rattle.reader.proofs.begin.whole.Lts as lts
 
 enum-known-step : tie.Need-enum-known-step
 enum-known-step c = search needs

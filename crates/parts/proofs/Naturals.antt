@@ -1,15 +1,15 @@
 -- A signed value as the code holds it, and as a count.
 -- Assumes nothing.
-use Prim.Native.Nat.{ℕ, zero, suc, _<_, _^_}
-use mathlib.Core.Bool.{Bool, true, false, true≢false, false≢true}
-use mathlib.Core.Path.{_≡_, refl, sym, ap, _∙_, subst}
+use Prim.Native.Nat.{ℕ, _<_, _^_}
+use mathlib.Core.Bool.{true, false, true≢false}
+use mathlib.Core.Path.{_≡_, refl, ap}
 use native.Mathlib.Omega.{arith}
 use lib.Dec.{T, ltb}
 use borrow.Author.Tests.{ltb-true}
 use lib.IntN.{ℤ, pos, negsuc, natAbs}
 use lib.Signed.{mag, ltZ, nonNeg}
 use mir.Syntax.{w64}
-use mir.Val.{Fits, SFits, toZ, ofZ, hbits}
+use mir.Val.{Fits, toZ, ofZ, hbits}
 use mir.Facts.{toZ-ofZ}
 use Rattle.item.specs.Code.{natural}
 

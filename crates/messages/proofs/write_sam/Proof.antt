@@ -1,0 +1,48 @@
+-- `messages::write_sam` meets its contract. The table of SAM passes.
+-- Assumes nothing.
+use Prim.Native.Nat.{ℕ, _+_, _-_, _*_, _/_, _≤_, _<_}
+use mathlib.Core.Path.{_≡_, refl, sym, ap, _∙_}
+use native.Mathlib.Omega.{arith}
+use denote.Ref.{now}
+use lib.ListN.{length}
+use Rattle.builtin.specs.Tables.{lm, sam, srm}
+use Rattle.builtin.proofs.Tables.{lm-obeys, lm-root, sam-obeys, sam-root, srm-obeys, srm-root}
+use mathlib.Core.List.{List, append-nil}
+use Rattle.values.specs.Values.{valuesIn, valuesFrom}
+use Rattle.encoding.specs.Calls.{filled, outputAfter}
+use Rattle.encoding.specs.Writing.{writeAnswer}
+use Rattle.codec.proofs.Ends.{write-passed}
+use Rattle.messages.proofs.ListTests.{list-passed, list-refused}
+use borrow.Author.Needs.{needs}
+use Rattle.messages.proofs.write_sam.Statement.{statement}
+use Rattle.messages.proofs.write_sam.Tie as tie
+use Rattle.messages.proofs.write_sam.Reads as reads
+use Rattle.messages.proofs.write_sam.Lts as lts
+use Rattle.codec.proofs.writing.write_known.Reads as write-known-reads
+
+slice-aggregate-write-known : tie.Need-slice-aggregate-write-known
+slice-aggregate-write-known c = search needs
+
+slice-aggregate-write-known-2 : tie.Need-slice-aggregate-write-known-2
+slice-aggregate-write-known-2 c = search needs
+
+write-known-requires : tie.Need-write-known-requires
+unfolding sam
+write-known-requires c κs = (sam-obeys, sym sam-root)
+
+same-length : tie.Need-same-length
+same-length c = search needs
+
+returns : tie.Need-returns
+unfolding sam valuesIn valuesFrom
+returns c = rw append-nil at (c .before .before .write-known .ensures)
+
+pub write-sam-spec : {M : Type 1} → statement M
+write-sam-spec =
+    tie.close
+    (tie.spec
+    slice-aggregate-write-known
+    slice-aggregate-write-known-2
+    write-known-requires
+    same-length
+    returns)

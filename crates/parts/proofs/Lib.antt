@@ -1,0 +1,4 @@
+pub mod Naturals
+pub mod Runs
+pub mod Choices
+pub mod Records

@@ -1,0 +1,3 @@
+pub mod Flow
+pub mod Beginnings
+pub mod Records

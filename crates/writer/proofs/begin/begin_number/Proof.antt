@@ -1,0 +1,73 @@
+-- `writer::begin::begin_number` meets its contract. One value, put by its code, whose low and span the row holds.
+-- Assumes nothing.
+use Prim.Native.Nat.{_+_, _≤_}
+use mathlib.Core.Path.{_≡_, refl, ap, ap₂, _∙_}
+use native.Mathlib.Omega.{arith}
+use borrow.Author.Needs.{needs}
+use denote.Ref.{now}
+use lib.Signed.{mag}
+use mir.Syntax.{w64}
+use mir.Val.{toZ, ofZ}
+use Rattle.octets.specs.Numbers.{u32, signed}
+use Rattle.octets.proofs.Numbers.{mag-signed}
+use Rattle.item.specs.Code.{number}
+use Rattle.encoding.specs.Items.{stop, one}
+use Rattle.parts.proofs.Naturals.{held}
+use Rattle.writer.proofs.Beginnings.{putting, first-missing, begins-one}
+use Rattle.writer.proofs.begin.begin_number.Statement.{statement}
+use Rattle.writer.proofs.begin.begin_number.Tie as tie
+
+returns : tie.Need-returns
+unfolding one
+returns c =
+    let next = c .before .before .before .next-value in
+    let a = c .before .before .before .before .before .before .before .args in
+    first-missing (number (signed (u32 (now (a .table)) (a .at + 4))) (u32 (now (a .table)) (a .at + 8))) (λ v. stop) refl
+    (next .result) (c .missing .result) (next .ensures) (c .before .enum-told .given .1) (c .missing .ensures)
+
+-- the row's low, as the code holds it
+low-small : (c : tie.After-signed-of) → mag (c .signed-of .result) ≤ 2147483648
+low-small c = rw (c .signed-of .ensures) (mag-signed (c .before .u32-at .result) (c .before .u32-at .ensures .1))
+
+low-held : (c : tie.After-signed-of) → toZ w64 (ofZ w64 (c .signed-of .result)) ≡ c .signed-of .result
+low-held c = held (c .signed-of .result) (omega (arith, low-small c))
+
+number-requires : tie.Need-number-requires
+number-requires c κs = (search needs, rw (low-held (c .before .before)) (low-small (c .before .before)))
+
+returns-2 : tie.Need-returns-2
+returns-2 c =
+    let moved = c .before .moved in
+    let put = c .before .before .before .before .number in
+    let span = c .before .before .before .before .before .before in
+    let low = span .before in
+    let word = low .before in
+    let told = word .before in
+    let value = told .before .given in
+    let next = told .before .before .before .next-value in
+    let a = told .before .before .before .before .before .before .before .args in
+    let code = ap₂ number (low-held low ∙ low .signed-of .ensures ∙ ap signed (word .u32-at .ensures .0)) (span .u32-at2 .ensures .0) in
+    rw (c .whole .ensures)
+    (begins-one (now (a .table)) (a .at) (moved .result)
+    (putting _ (next .result) (put .result) _ _ code (next .ensures) (value .given .1) (held (value .given .0 .0) (told .known-told .given .0 .1)) (put .ensures) (moved .ensures)))
+
+pub begin-number-spec : {M : Type 1} → statement M
+begin-number-spec =
+    tie.close
+    (tie.spec
+    (λ c κs. search needs)
+    (λ c. search needs)
+    (λ c. search needs)
+    (λ c κs. search needs)
+    returns
+    (λ c. search needs)
+    (λ c κs. search needs)
+    (λ c κs. search needs)
+    (λ c. search needs)
+    (λ c κs. search needs)
+    (λ c. search needs)
+    number-requires
+    (λ c κs. search needs)
+    (λ c κs. search needs)
+    (λ c. search needs)
+    returns-2)

@@ -1,0 +1,302 @@
+// The items of a row that are its own: a number, a variable number, octets, the length of a counted run, the presence bits of
+// a record, the index of a choice. Each takes the next value of the list; a value that is missing is refused as a wrong one.
+use crate::Begun;
+use crate::Cursor;
+use crate::Given;
+use crate::Step;
+use answer::Refusal;
+use item::Put;
+use table::Row;
+ghost use mathlib.Core.Path.{_≡_};
+ghost use Prim.Native.Nat.{_+_, _<_, _≤_};
+ghost use lib.IntN.{pos};
+ghost use lib.ListN.{length};
+ghost use Rattle.octets.specs.Numbers.{u16, u32, signed};
+ghost use Rattle.item.specs.Code.{Code};
+ghost use Rattle.table.specs.Rules.{Obeys, Starts};
+ghost use Rattle.encoding.specs.Items.{one, times};
+ghost use Rattle.encoding.specs.Rows.{items};
+ghost use Rattle.writer.specs.Writes.{Writes, listIn, stateAt, Gives, missingAt, movedStep};
+ghost use Rattle.writer.specs.Begins.{Begins, Marks, wholeOf};
+
+// The value at an index of the list, and the index after it.
+fn next_value(values: &[i64], packed: &[u8], index: usize) -> Given
+    ensures { λ r. ⌜ Gives (listIn (now (values .entry)) (now (packed .entry))) index r ⌝ }
+{
+    if values::count(values, packed) <= index {
+        return Given::Missing;
+    }
+    Given::Value(values::value_at(values, packed, index), index + 1)
+}
+
+// The refusal of a value that is missing.
+fn missing(index: usize) -> Refusal
+    ensures { λ r. ⌜ r ≡ missingAt index ⌝ }
+{
+    Refusal {
+        number: Refusal::WRONG_VALUE,
+        place: index,
+    }
+}
+
+// The cursor after a value that was put; or the refusal, at the value's index.
+fn moved(put: Put, index: usize, after: usize) -> Step
+    ensures { λ r. ⌜ r ≡ movedStep put index after ⌝ }
+{
+    match put {
+        Put::Next(place) => Step::Past(Cursor {
+            place,
+            index: after,
+        }),
+        Put::Unfit(number) => Step::Refused(Refusal {
+            number,
+            place: index,
+        }),
+    }
+}
+
+// A step as the beginning of a row that asks for no more.
+fn whole(step: Step) -> Begun
+    ensures { λ r. ⌜ r ≡ wholeOf step ⌝ }
+{
+    match step {
+        Step::Past(next) => Begun::Done(next),
+        Step::Refused(refusal) => Begun::Refused(refusal),
+    }
+}
+
+// A number row.
+fn begin_number(
+    table: &[u8],
+    at: usize,
+    values: &[i64],
+    packed: &[u8],
+    output: &mut [u8],
+    cursor: Cursor,
+) -> Begun
+    requires { ⌜ (at + 12 ≤ length (now table)) × (length (now output) ≤ 65535) ⌝ }
+    ensures { λ r. ⌜ Begins (now (table .entry)) at (listIn (now (values .entry)) (now (packed .entry))) (one (Code.number (signed (u32 (now (table .entry)) (at + 4))) (u32 (now (table .entry)) (at + 8)))) (stateAt cursor (now (output .entry))) (now (output .exit)) r ⌝ }
+{
+    let given = next_value(values, packed, cursor.index);
+    let Given::Value(value, after) = given else {
+        return Begun::Refused(missing(cursor.index));
+    };
+    let low = octets::signed_of(octets::u32_at(table, at + 4));
+    let span = octets::u32_at(table, at + 8);
+    let put = item::write::number(output, cursor.place, low, span as u32, value);
+    whole(moved(put, cursor.index, after))
+}
+
+// A variable number row.
+fn begin_variable(
+    table: &[u8],
+    at: usize,
+    values: &[i64],
+    packed: &[u8],
+    output: &mut [u8],
+    cursor: Cursor,
+) -> Begun
+    requires { ⌜ length (now output) ≤ 65535 ⌝ }
+    ensures { λ r. ⌜ Begins (now (table .entry)) at (listIn (now (values .entry)) (now (packed .entry))) (one Code.variable) (stateAt cursor (now (output .entry))) (now (output .exit)) r ⌝ }
+{
+    let given = next_value(values, packed, cursor.index);
+    let Given::Value(value, after) = given else {
+        return Begun::Refused(missing(cursor.index));
+    };
+    let put = item::write::variable(output, cursor.place, value);
+    whole(moved(put, cursor.index, after))
+}
+
+// So many octets, each a value.
+fn write_octets(
+    count: usize,
+    values: &[i64],
+    packed: &[u8],
+    output: &mut [u8],
+    cursor: Cursor,
+) -> Step
+    requires { ⌜ length (now output) ≤ 65535 ⌝ }
+    ensures { λ r. ⌜ Writes (listIn (now (values .entry)) (now (packed .entry))) (times count (one (Code.number (pos 0) 255))) (stateAt cursor (now (output .entry))) (now (output .exit)) r ⌝ }
+{
+    let mut done = 0;
+    let mut here = cursor;
+    while done < count {
+        let given = next_value(values, packed, here.index);
+        let Given::Value(value, after) = given else {
+            return Step::Refused(missing(here.index));
+        };
+        let put = item::write::octet(output, here.place, value);
+        let step = moved(put, here.index, after);
+        let Step::Past(next) = step else {
+            return step;
+        };
+        here = next;
+        done += 1;
+    }
+    Step::Past(here)
+}
+
+// A row of octets: a length, then each octet.
+fn begin_octets(
+    table: &[u8],
+    at: usize,
+    values: &[i64],
+    packed: &[u8],
+    output: &mut [u8],
+    cursor: Cursor,
+) -> Begun
+    requires { ⌜ Obeys (now table) × Starts (now table) at × (u16 (now table) (at + 2) ≡ 7) × (length (now output) ≤ 65535) ⌝ }
+    ensures { λ r. ⌜ Begins (now (table .entry)) at (listIn (now (values .entry)) (now (packed .entry))) (items (now (table .entry)) at) (stateAt cursor (now (output .entry))) (now (output .exit)) r ⌝ }
+{
+    let given = next_value(values, packed, cursor.index);
+    let Given::Value(value, after) = given else {
+        return Begun::Refused(missing(cursor.index));
+    };
+    let most = octets::u16_at(table, at + 4);
+    let put = item::write::length(output, cursor.place, 0, most as u32, value);
+    let step = moved(put, cursor.index, after);
+    let Step::Past(next) = step else {
+        return whole(step);
+    };
+    let count = parts::count_of(value);
+    whole(write_octets(count, values, packed, output, next))
+}
+
+// A counted run: a length, which leaves that many items of the row that it refers to.
+fn begin_counted(
+    table: &[u8],
+    at: usize,
+    values: &[i64],
+    packed: &[u8],
+    output: &mut [u8],
+    cursor: Cursor,
+) -> Begun
+    requires { ⌜ Obeys (now table) × Starts (now table) at × (u16 (now table) (at + 2) ≡ 4) × (length (now output) ≤ 65535) ⌝ }
+    ensures { λ r. ⌜ Begins (now (table .entry)) at (listIn (now (values .entry)) (now (packed .entry))) (items (now (table .entry)) at) (stateAt cursor (now (output .entry))) (now (output .exit)) r ⌝ }
+{
+    let given = next_value(values, packed, cursor.index);
+    let Given::Value(value, after) = given else {
+        return Begun::Refused(missing(cursor.index));
+    };
+    let most = octets::u16_at(table, at + 4);
+    let row = octets::u16_at(table, at + 6);
+    let put = item::write::length(output, cursor.place, 0, most as u32, value);
+    let step = moved(put, cursor.index, after);
+    let Step::Past(next) = step else {
+        return whole(step);
+    };
+    Begun::Run(parts::count_of(value), row, next)
+}
+
+// A choice: an index, which leaves the row of its branch.
+fn begin_choice(
+    table: &[u8],
+    at: usize,
+    values: &[i64],
+    packed: &[u8],
+    output: &mut [u8],
+    cursor: Cursor,
+) -> Begun
+    requires { ⌜ Obeys (now table) × Starts (now table) at × (u16 (now table) (at + 2) ≡ 6) × (length (now output) ≤ 65535) ⌝ }
+    ensures { λ r. ⌜ Begins (now (table .entry)) at (listIn (now (values .entry)) (now (packed .entry))) (items (now (table .entry)) at) (stateAt cursor (now (output .entry))) (now (output .exit)) r ⌝ }
+{
+    let given = next_value(values, packed, cursor.index);
+    let Given::Value(value, after) = given else {
+        return Begun::Refused(missing(cursor.index));
+    };
+    let branches = octets::u16_at(table, at + 4);
+    let put = item::write::index(output, cursor.place, table, at + 6, branches, value);
+    let step = moved(put, cursor.index, after);
+    let Step::Past(next) = step else {
+        return whole(step);
+    };
+    let row = octets::u16_at(table, at + 6 + 2 * parts::count_of(value));
+    Begun::Branch(row, next)
+}
+
+// A field's mark behind those before it: set where the field is always there, else by its presence value, whose bit is written.
+fn mark(
+    flag: usize,
+    mask: u32,
+    values: &[i64],
+    packed: &[u8],
+    output: &mut [u8],
+    cursor: Cursor,
+) -> Begun
+    requires { ⌜ (mask < 2147483648) × (length (now output) ≤ 65535) ⌝ }
+    ensures { λ r. ⌜ Marks flag mask (listIn (now (values .entry)) (now (packed .entry))) (stateAt cursor (now (output .entry))) (now (output .exit)) r ⌝ }
+{
+    if flag == 0 {
+        return Begun::Fields(mask * 2 + 1, cursor);
+    }
+    let given = next_value(values, packed, cursor.index);
+    let Given::Value(value, after) = given else {
+        return Begun::Refused(missing(cursor.index));
+    };
+    let put = item::write::number(output, cursor.place, 0, 1, value);
+    let step = moved(put, cursor.index, after);
+    let Step::Past(next) = step else {
+        return whole(step);
+    };
+    if parts::count_of(value) == 1 {
+        return Begun::Fields(mask * 2 + 1, next);
+    }
+    Begun::Fields(mask * 2, next)
+}
+
+// A record: a presence value for each optional field, which leave the fields that are present.
+fn begin_record(
+    table: &[u8],
+    at: usize,
+    values: &[i64],
+    packed: &[u8],
+    output: &mut [u8],
+    cursor: Cursor,
+) -> Begun
+    requires { ⌜ Obeys (now table) × Starts (now table) at × (u16 (now table) (at + 2) ≡ 5) × (length (now output) ≤ 65535) ⌝ }
+    ensures { λ r. ⌜ Begins (now (table .entry)) at (listIn (now (values .entry)) (now (packed .entry))) (items (now (table .entry)) at) (stateAt cursor (now (output .entry))) (now (output .exit)) r ⌝ }
+{
+    let fields = octets::u16_at(table, at + 4);
+    let mut field = 0;
+    let mut mask = 0u32;
+    let mut here = cursor;
+    while field < fields {
+        let flag = octets::u16_at(table, at + 8 + 4 * field);
+        let begun = mark(flag, mask, values, packed, output, here);
+        let Begun::Fields(marked, next) = begun else {
+            return begun;
+        };
+        mask = marked;
+        here = next;
+        field += 1;
+    }
+    Begun::Fields(mask, here)
+}
+
+// The row at an offset: its own items, and what they leave.
+pub fn begin(
+    table: &[u8],
+    at: usize,
+    values: &[i64],
+    packed: &[u8],
+    output: &mut [u8],
+    cursor: Cursor,
+) -> Begun
+    requires { ⌜ Obeys (now table) × Starts (now table) at × (length (now output) ≤ 65535) ⌝ }
+    ensures { λ r. ⌜ Begins (now (table .entry)) at (listIn (now (values .entry)) (now (packed .entry))) (items (now (table .entry)) at) (stateAt cursor (now (output .entry))) (now (output .exit)) r ⌝ }
+{
+    let kind = octets::u16_at(table, at + 2);
+    match kind {
+        Row::NUMBER => begin_number(table, at, values, packed, output, cursor),
+        Row::VARIABLE => begin_variable(table, at, values, packed, output, cursor),
+        Row::FIXED_RUN => {
+            let count = octets::u16_at(table, at + 4);
+            let row = octets::u16_at(table, at + 6);
+            Begun::Run(count, row, cursor)
+        }
+        Row::COUNTED_RUN => begin_counted(table, at, values, packed, output, cursor),
+        Row::RECORD => begin_record(table, at, values, packed, output, cursor),
+        Row::CHOICE => begin_choice(table, at, values, packed, output, cursor),
+        _ => begin_octets(table, at, values, packed, output, cursor),
+    }
+}

@@ -1,0 +1,151 @@
+// Writes the items that a row of a passed table asks for into an output, from the values of a list in the slices that are lent.
+// A row's own items come first (begin.rt); then the rows that it refers to, each earlier in the table.
+mod begin;
+
+use answer::Refusal;
+use bits::BitPlace;
+ghost use mathlib.Core.Path.{_≡_};
+ghost use Prim.Native.Nat.{_+_, _*_, _<_, _≤_, _^_};
+ghost use lib.ListN.{length};
+ghost use Rattle.octets.specs.Numbers.{u16};
+ghost use Rattle.table.specs.Rules.{Obeys, Starts, Earlier};
+ghost use Rattle.encoding.specs.Items.{times};
+ghost use Rattle.encoding.specs.Rows.{items};
+ghost use Rattle.parts.specs.Parts.{markedFields, fieldIf};
+ghost use Rattle.writer.specs.Writes.{Writes, listIn, stateAt};
+
+// Where a writer stands: the next bit of the output, and the index of the next value.
+pub struct Cursor {
+    pub place: BitPlace,
+    pub index: usize,
+}
+
+// What writing a row gives: the cursor after it, or the refusal, whose place is the index of its value.
+pub enum Step {
+    Past(Cursor),
+    Refused(Refusal),
+}
+
+// The next value of the list and the index after it, or that the list ends before it.
+pub enum Given {
+    Value(i64, usize),
+    Missing,
+}
+
+// What a row's own items leave to be written: nothing, a run of the row at an offset, the row at an offset, the fields of the
+// record that a mask marks as present (the first field on top); or the refusal.
+pub enum Begun {
+    Done(Cursor),
+    Run(usize, usize, Cursor),
+    Branch(usize, Cursor),
+    Fields(u32, Cursor),
+    Refused(Refusal),
+}
+
+// The row at an offset.
+pub fn write_row(
+    table: &[u8],
+    at: usize,
+    values: &[i64],
+    packed: &[u8],
+    output: &mut [u8],
+    cursor: Cursor,
+) -> Step
+    requires { ⌜ Obeys (now table) × Starts (now table) at × (length (now output) ≤ 65535) ⌝ }
+    ensures { λ r. ⌜ Writes (listIn (now (values .entry)) (now (packed .entry))) (items (now (table .entry)) at) (stateAt cursor (now (output .entry))) (now (output .exit)) r ⌝ }
+{
+    let begun = begin::begin(table, at, values, packed, output, cursor);
+    match begun {
+        Begun::Done(next) => Step::Past(next),
+        Begun::Run(count, row, next) => write_run(
+            table,
+            at,
+            row,
+            count,
+            values,
+            packed,
+            output,
+            next,
+        ),
+        Begun::Branch(row, next) => write_row(table, row, values, packed, output, next),
+        Begun::Fields(mask, next) => write_fields(table, at, mask, values, packed, output, next),
+        Begun::Refused(refusal) => Step::Refused(refusal),
+    }
+}
+
+// So many times the row at an offset before `at`.
+fn write_run(
+    table: &[u8],
+    at: usize,
+    row: usize,
+    count: usize,
+    values: &[i64],
+    packed: &[u8],
+    output: &mut [u8],
+    cursor: Cursor,
+) -> Step
+    requires { ⌜ Obeys (now table) × Starts (now table) at × Earlier (now table) at row × (length (now output) ≤ 65535) ⌝ }
+    ensures { λ r. ⌜ Writes (listIn (now (values .entry)) (now (packed .entry))) (times count (items (now (table .entry)) row)) (stateAt cursor (now (output .entry))) (now (output .exit)) r ⌝ }
+{
+    let mut done = 0;
+    let mut here = cursor;
+    while done < count {
+        let step = write_row(table, row, values, packed, output, here);
+        let Step::Past(next) = step else {
+            return step;
+        };
+        here = next;
+        done += 1;
+    }
+    Step::Past(here)
+}
+
+// The fields of the record at an offset that are marked as present.
+fn write_fields(
+    table: &[u8],
+    at: usize,
+    mask: u32,
+    values: &[i64],
+    packed: &[u8],
+    output: &mut [u8],
+    cursor: Cursor,
+) -> Step
+    requires { ⌜ Obeys (now table) × Starts (now table) at × (u16 (now table) (at + 2) ≡ 5) × (mask < 2 ^ u16 (now table) (at + 4)) × (length (now output) ≤ 65535) ⌝ }
+    ensures { λ r. ⌜ Writes (listIn (now (values .entry)) (now (packed .entry))) (markedFields (now (table .entry)) at mask) (stateAt cursor (now (output .entry))) (now (output .exit)) r ⌝ }
+{
+    let fields = octets::u16_at(table, at + 4);
+    let mut field = 0;
+    let mut here = cursor;
+    while field < fields {
+        let row = octets::u16_at(table, at + 6 + 4 * field);
+        let present = parts::is_marked(mask, fields, field);
+        let step = write_field(table, at, row, present, values, packed, output, here);
+        let Step::Past(next) = step else {
+            return step;
+        };
+        here = next;
+        field += 1;
+    }
+    Step::Past(here)
+}
+
+// A field, where it is present: the row at an offset before `at`.
+fn write_field(
+    table: &[u8],
+    at: usize,
+    row: usize,
+    present: bool,
+    values: &[i64],
+    packed: &[u8],
+    output: &mut [u8],
+    cursor: Cursor,
+) -> Step
+    requires { ⌜ Obeys (now table) × Starts (now table) at × Earlier (now table) at row × (length (now output) ≤ 65535) ⌝ }
+    ensures { λ r. ⌜ Writes (listIn (now (values .entry)) (now (packed .entry))) (fieldIf present (items (now (table .entry)) row)) (stateAt cursor (now (output .entry))) (now (output .exit)) r ⌝ }
+{
+    if present {
+        write_row(table, row, values, packed, output, cursor)
+    } else {
+        Step::Past(cursor)
+    }
+}
