@@ -4,3 +4,4 @@ pub mod Cases
 pub mod Clause5
 pub mod Demand2
 pub mod UserData
+pub mod Demands
