@@ -3,7 +3,12 @@
 //! | Module | What it holds |
 //! |---|---|
 //! | `codec` | answers, and the trait `Codec` that every codec under test implements |
+//! | `linked` | the calls of the static libraries: the one file with `unsafe` |
+//! | `api` | what a host calls: check, read and write under a lent table |
+//! | `by_name` | the calls by name, for tests |
+//! | `archive` | the static libraries as a codec under test |
 //! | `assemble` | a small assembler for tables |
+//! | `builtin` | the built-in tables, assembled as docs/MESSAGES.md lists their rows |
 //! | `reference` | the independent codec, written from document 01 alone; also the speed baseline |
 //! | `mutants` | the reference with one planted fault each |
 //! | `case` | one call with its input, and the outcome of running it on a codec |
@@ -11,10 +16,20 @@
 //! | `random` | a seeded generator of tables, lists of values and messages |
 //! | `compare` | two codecs on many drawn cases, compared to the last octet |
 
+#![deny(unsafe_code)]
+
+pub mod api;
+#[cfg(feature = "probe")]
+pub mod archive;
 pub mod assemble;
+pub mod builtin;
+#[cfg(feature = "probe")]
+pub mod by_name;
 pub mod case;
 pub mod codec;
 pub mod compare;
+#[allow(unsafe_code)]
+mod linked;
 pub mod mutants;
 pub mod random;
 pub mod reference;

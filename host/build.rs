@@ -1,0 +1,57 @@
+//! Links the static libraries that `rt staticlib` builds from the Rattle crates. They are looked for
+//! in ../target/staticlib, or in the folder that the variable TEYOLXAN_ARCHIVES names.
+
+use std::env;
+use std::path::{Path, PathBuf};
+
+fn main() {
+    let folder = match env::var_os("TEYOLXAN_ARCHIVES") {
+        Some(folder) => PathBuf::from(folder),
+        None => Path::new(env!("CARGO_MANIFEST_DIR")).with_file_name("target/staticlib"),
+    };
+    let mut names = vec!["teyolxan"];
+    if env::var_os("CARGO_FEATURE_PROBE").is_some() {
+        names.push("probe");
+    }
+    println!("cargo::rerun-if-changed=build.rs");
+    println!("cargo::rerun-if-env-changed=TEYOLXAN_ARCHIVES");
+    for line in instructions(&folder, &names) {
+        println!("{line}");
+    }
+}
+
+/// What Cargo is told: to link the libraries of these names, or one error where some are missing.
+pub fn instructions(folder: &Path, names: &[&str]) -> Vec<String> {
+    let file = |name: &str| format!("lib{name}.a");
+    let missing: Vec<&str> = names
+        .iter()
+        .copied()
+        .filter(|name| !folder.join(file(name)).is_file())
+        .collect();
+    if !missing.is_empty() {
+        let files: Vec<String> = missing.iter().map(|name| file(name)).collect();
+        let commands: Vec<String> = missing
+            .iter()
+            .map(|name| format!("rt staticlib {name}"))
+            .collect();
+        return vec![format!(
+            "cargo::error=no {} in {}: run `{}` in the repository's root",
+            files.join(", no "),
+            folder.display(),
+            commands.join(" && "),
+        )];
+    }
+    let mut lines = vec![
+        format!("cargo::rustc-link-search=native={}", folder.display()),
+        format!(
+            "cargo::rustc-env=TEYOLXAN_ARCHIVES_FOLDER={}",
+            folder.display()
+        ),
+    ];
+    for name in names {
+        let path = folder.join(file(name));
+        lines.push(format!("cargo::rerun-if-changed={}", path.display()));
+        lines.push(format!("cargo::rustc-link-lib=static={name}"));
+    }
+    lines
+}

@@ -1,0 +1,51 @@
+//! What a host calls: check, read and write under a lent table. Any octets may be lent; no call
+//! panics, allocates, or holds anything back. docs/HOST.md has an example.
+
+use crate::linked::{self, Numbers};
+
+pub use crate::codec::Answer;
+
+/// Whether the table obeys the rules of document 01.
+pub fn check(table: &[u8]) -> Answer {
+    answer(linked::check(table))
+}
+
+/// Reads the message into the value slice. Afterwards the slice is the values, then zeros; after a
+/// refusal it is all zeros.
+pub fn read(table: &[u8], message: &[u8], values: &mut [i64]) -> Answer {
+    read_octets(table, message, linked::octets_mut(values))
+}
+
+/// Writes the list into the output. Afterwards the output is the message, then zeros; after a
+/// refusal it is all zeros.
+pub fn write(table: &[u8], values: &[i64], output: &mut [u8]) -> Answer {
+    write_octets(table, linked::octets(values), output)
+}
+
+/// Reads into a slice of octets, eight for a value, little-endian, two's complement. Octets after
+/// the last whole eight are zeroed.
+pub fn read_octets(table: &[u8], message: &[u8], values: &mut [u8]) -> Answer {
+    answer(linked::read(table, message, values))
+}
+
+/// Writes a list of octets, eight for a value, little-endian, two's complement. Octets after the
+/// last whole eight are ignored.
+pub fn write_octets(table: &[u8], values: &[u8], output: &mut [u8]) -> Answer {
+    answer(linked::write(table, values, output))
+}
+
+/// The answer that these numbers tell.
+pub(crate) fn answer([number, place, values, bits, octets, _]: Numbers) -> Answer {
+    if number == 0 {
+        Answer::Accepted {
+            values,
+            bits,
+            octets,
+        }
+    } else {
+        Answer::Refused {
+            number: number as u32,
+            place,
+        }
+    }
+}

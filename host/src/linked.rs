@@ -1,0 +1,210 @@
+//! The calls of the static libraries, made safe: the one file with `unsafe`.
+//!
+//! A slice is given as a pointer to its first element and the count of its elements, the six
+//! numbers of the answer as one pointer. The calls keep no pointer, hold no state, and are proved
+//! to write to the lent slices and the numbers alone, whatever the octets are.
+
+#[cfg(not(target_endian = "little"))]
+compile_error!("the libraries take values as eight octets, little-endian, and lists are lent as they stand in memory");
+
+use std::slice;
+
+/// An answer as the libraries give it: the refusal's number or 0, its place, the counts of values,
+/// bits and octets, and 0.
+pub type Numbers = [u64; 6];
+
+/// What the numbers hold before a call, so that one which is not written shows.
+const BEFORE: Numbers = [u64::MAX; 6];
+
+extern "C" {
+    fn teyolxan_check(table: *const u8, table_length: usize, numbers: *mut Numbers);
+
+    fn teyolxan_read(
+        table: *const u8,
+        table_length: usize,
+        message: *const u8,
+        message_length: usize,
+        values: *mut u8,
+        values_length: usize,
+        numbers: *mut Numbers,
+    );
+
+    fn teyolxan_write(
+        table: *const u8,
+        table_length: usize,
+        values: *const u8,
+        values_length: usize,
+        output: *mut u8,
+        output_length: usize,
+        numbers: *mut Numbers,
+    );
+}
+
+pub fn check(table: &[u8]) -> Numbers {
+    let mut numbers = BEFORE;
+    // SAFETY: pointer and length are those of a live slice, and the numbers are ours to write.
+    unsafe { teyolxan_check(table.as_ptr(), table.len(), &mut numbers) };
+    numbers
+}
+
+pub fn read(table: &[u8], message: &[u8], values: &mut [u8]) -> Numbers {
+    let mut numbers = BEFORE;
+    // SAFETY: pointers and lengths are those of live slices; only `values`, which is lent to us
+    // alone, and the numbers are written.
+    unsafe {
+        teyolxan_read(
+            table.as_ptr(),
+            table.len(),
+            message.as_ptr(),
+            message.len(),
+            values.as_mut_ptr(),
+            values.len(),
+            &mut numbers,
+        )
+    };
+    numbers
+}
+
+pub fn write(table: &[u8], values: &[u8], output: &mut [u8]) -> Numbers {
+    let mut numbers = BEFORE;
+    // SAFETY: pointers and lengths are those of live slices; only `output`, which is lent to us
+    // alone, and the numbers are written.
+    unsafe {
+        teyolxan_write(
+            table.as_ptr(),
+            table.len(),
+            values.as_ptr(),
+            values.len(),
+            output.as_mut_ptr(),
+            output.len(),
+            &mut numbers,
+        )
+    };
+    numbers
+}
+
+/// A list's octets, in place.
+pub fn octets(values: &[i64]) -> &[u8] {
+    // SAFETY: the same memory, lent for as long; octets need no alignment, and those of an i64 are
+    // all initialised.
+    unsafe { slice::from_raw_parts(values.as_ptr().cast(), size_of_val(values)) }
+}
+
+/// A value slice's octets, in place.
+pub fn octets_mut(values: &mut [i64]) -> &mut [u8] {
+    // SAFETY: as in `octets`; the slice is lent to us alone, and any eight octets are an i64.
+    unsafe { slice::from_raw_parts_mut(values.as_mut_ptr().cast(), size_of_val(values)) }
+}
+
+/// The calls by name, from the library that is built for tests.
+#[cfg(feature = "probe")]
+pub mod probe {
+    use super::{Numbers, BEFORE};
+
+    extern "C" {
+        fn probe_read_lm(
+            message: *const u8,
+            message_length: usize,
+            values: *mut i64,
+            values_count: usize,
+            numbers: *mut Numbers,
+        );
+
+        fn probe_read_sam(
+            message: *const u8,
+            message_length: usize,
+            values: *mut i64,
+            values_count: usize,
+            numbers: *mut Numbers,
+        );
+
+        fn probe_read_srm(
+            message: *const u8,
+            message_length: usize,
+            values: *mut i64,
+            values_count: usize,
+            numbers: *mut Numbers,
+        );
+
+        fn probe_write_lm(
+            values: *const i64,
+            values_count: usize,
+            output: *mut u8,
+            output_length: usize,
+            numbers: *mut Numbers,
+        );
+
+        fn probe_write_sam(
+            values: *const i64,
+            values_count: usize,
+            output: *mut u8,
+            output_length: usize,
+            numbers: *mut Numbers,
+        );
+
+        fn probe_write_srm(
+            values: *const i64,
+            values_count: usize,
+            output: *mut u8,
+            output_length: usize,
+            numbers: *mut Numbers,
+        );
+
+        fn probe_element(id: u32, home: u32) -> u32;
+    }
+
+    /// The messages that have a name.
+    #[derive(Clone, Copy, Debug, PartialEq, Eq)]
+    pub enum Name {
+        Lm,
+        Sam,
+        Srm,
+    }
+
+    pub fn read(name: Name, message: &[u8], values: &mut [i64]) -> Numbers {
+        let call = match name {
+            Name::Lm => probe_read_lm,
+            Name::Sam => probe_read_sam,
+            Name::Srm => probe_read_srm,
+        };
+        let mut numbers = BEFORE;
+        // SAFETY: pointers and lengths are those of live slices; only `values`, which is lent to us
+        // alone, and the numbers are written.
+        unsafe {
+            call(
+                message.as_ptr(),
+                message.len(),
+                values.as_mut_ptr(),
+                values.len(),
+                &mut numbers,
+            )
+        };
+        numbers
+    }
+
+    pub fn write(name: Name, values: &[i64], output: &mut [u8]) -> Numbers {
+        let call = match name {
+            Name::Lm => probe_write_lm,
+            Name::Sam => probe_write_sam,
+            Name::Srm => probe_write_srm,
+        };
+        let mut numbers = BEFORE;
+        // SAFETY: pointers and lengths are those of live slices; only `output`, which is lent to us
+        // alone, and the numbers are written.
+        unsafe {
+            call(
+                values.as_ptr(),
+                values.len(),
+                output.as_mut_ptr(),
+                output.len(),
+                &mut numbers,
+            )
+        };
+        numbers
+    }
+
+    pub fn element(id: u32, home: u32) -> u32 {
+        // SAFETY: two numbers in, one out.
+        unsafe { probe_element(id, home) }
+    }
+}
