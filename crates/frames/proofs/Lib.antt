@@ -1,0 +1,3 @@
+mod Example
+pub mod Fronts
+mod Told

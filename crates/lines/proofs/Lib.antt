@@ -1,0 +1,3 @@
+mod Decimal
+mod Signs
+pub mod Texts

@@ -1,0 +1,5 @@
+pub mod Taken
+pub mod Outcome
+pub mod Room
+pub mod Placed
+pub mod Cases

@@ -1,0 +1,335 @@
+-- No item of an LM takes no bits: so there are at most as many values as bits, and with room for so many, room plays no part.
+-- Assumes nothing.
+use Prim.Native.Nat.{ℕ, zero, suc, _+_, _-_, _*_, _≤_}
+use mathlib.Core.Bool.{Bool, true, false, cond, _&&_}
+use mathlib.Core.Path.{_≡_, refl, sym, ap, _∙_, subst}
+use mathlib.Core.Logic.{_≢_}
+use mathlib.Core.List.{List, [], _∷_, map}
+use native.Mathlib.Omega.{arith}
+use lib.Dec.{leb, ltb, eqb}
+use lib.IntN.{ℤ, pos, _-ℤ_}
+use lib.ListN.{length, drop, getD, replicate, length-append}
+use borrow.Author.Tests.{leb-true}
+use Rattle.octets.specs.Numbers.{u16, u32, signed, u16s}
+use Rattle.bits.specs.Bits.{width, unpack}
+use Rattle.bits.proofs.Bits.{length-bitsOf, length-unpack}
+use Rattle.item.specs.Code.{Code, number, variable, lengthWithin, index, indexWidth, spelling, natural, valueBits, Got, got, bad, provided, bitField, onesUpTo, octetField, leastOf, base, variableOnes, lengthOnes, lowOf, decodeOffset, above, decodeItem}
+use Rattle.item.specs.Answers.{there}
+use Rattle.item.proofs.CodeLaws.{length-leading, decodeItem-sound}
+use Rattle.table.specs.Offsets.{earlier}
+use Rattle.table.specs.Rows.{Row, Number, Variable, FixedRun, CountedRun, Record, Choice, Octets, Unknown, rowOf, rowAt}
+use Rattle.table.specs.Rules.{All}
+use Rattle.encoding.specs.Items.{Items, stop, ask, _then_, one, times, Allows, encodingBits}
+use Rattle.encoding.specs.Rows.{presence, fields, rowItems, items, asks}
+use Rattle.encoding.specs.Encoding.{size}
+use Rattle.encoding.specs.Reading.{Reading, done, stuck, prepend, readOne, readItems, ReadOutcome, accept, refuse, allZero, closeRead, decode}
+use Rattle.encoding.proofs.RowItems.{items-row}
+use Rattle.builtin.specs.Tables.{lm}
+use Rattle.builtin.proofs.Tables.{lm-root}
+use Rattle.lm.specs.ByName.{lmVersion, lmSubtype, readIf, readLmOutcome}
+use Rattle.userdata.specs.UserData.{enough}
+
+-- ── items that each take a bit ──
+
+abbrev Costs : Items → Type 0
+Costs stop = Unit {0}
+Costs (ask c k) = ((v : ℤ) → 1 ≤ length (valueBits c v)) × ((v : ℤ) → Costs (k v))
+
+costs-then : (p q : Items) → Costs p → Costs q → Costs (p then q)
+costs-then stop q h k = k
+costs-then (ask c f) q h k = (h .0, λ v. costs-then (f v) q (h .1 v) k)
+
+costs-times : (n : ℕ) (p : Items) → Costs p → Costs (times n p)
+unfolding times
+costs-times zero p h = tt
+costs-times (suc n) p h = costs-then p (times n p) h (costs-times n p h)
+
+spelling-costs : (c m : ℕ) → 1 ≤ length (spelling c m)
+spelling-costs c m = simp (length-append, length-leading) (omega arith)
+
+variable-costs : (v : ℤ) → 1 ≤ length (valueBits variable v)
+variable-costs v =
+    let n = natural (v -ℤ pos 0) in
+    spelling-costs (variableOnes n) (n - base (variableOnes n))
+
+length-costs : (least most : ℕ) (v : ℤ) → 1 ≤ length (valueBits (lengthWithin least most) v)
+length-costs least most v =
+    let n = natural (v -ℤ pos 0) in
+    spelling-costs (lengthOnes n) n
+
+number-costs : (low : ℤ) (span : ℕ) → 1 ≤ width span → (v : ℤ) → 1 ≤ length (valueBits (number low span) v)
+number-costs low span h v = rw length-bitsOf h
+
+presence-costs : (flags : List ℕ) (k : List Bool → Items) → ((ps : List Bool) → Costs (k ps)) → Costs (presence flags k)
+unfolding presence width
+presence-costs [] k h = h []
+presence-costs (zero ∷ flags) k h = presence-costs flags (λ ps. k (true ∷ ps)) (λ ps. h (true ∷ ps))
+presence-costs (suc f ∷ flags) k h = (number-costs (pos 0) 1 (omega arith), λ v. presence-costs flags _ (λ ps. h (eqb (natural v) 1 ∷ ps)))
+
+module _ (g : ℕ → Items) where
+  fields-costs : (rs : List ℕ) → All (λ r. Costs (g r)) rs → (ps : List Bool) → Costs (fields g rs ps)
+  unfolding fields
+  fields-costs [] h ps = tt
+  fields-costs (r ∷ rs) h [] = tt
+  fields-costs (r ∷ rs) h (true ∷ ps) = costs-then (g r) (fields g rs ps) (h .0) (fields-costs rs (h .1) ps)
+  fields-costs (r ∷ rs) h (false ∷ ps) = fields-costs rs (h .1) ps
+
+  branch-costs : (rs : List ℕ) → All (λ r. Costs (g r)) rs → Costs (g 65535) → (n : ℕ) → Costs (g (getD rs n 65535))
+  branch-costs [] h z n = z
+  branch-costs (r ∷ rs) h z zero = h .0
+  branch-costs (r ∷ rs) h z (suc n) = branch-costs rs (h .1) z n
+
+  reserved-costs : (n : ℕ) → Costs (g 65535) → All (λ r. Costs (g r)) (replicate n 65535)
+  reserved-costs zero z = tt
+  reserved-costs (suc n) z = (z, reserved-costs n z)
+
+  -- what a row owes for it
+  abbrev RowCosts : Row → Type 0
+  RowCosts (Number low span) = 1 ≤ width span
+  RowCosts Variable = Unit {0}
+  RowCosts (FixedRun count r) = Costs (g r)
+  RowCosts (CountedRun most r) = Costs (g r)
+  RowCosts (Record rs flags) = All (λ r. Costs (g r)) rs
+  RowCosts (Choice rs) = (1 ≤ indexWidth (map there rs)) × All (λ r. Costs (g r)) rs × Costs (g 65535)
+  RowCosts (Octets least most) = Unit {0}
+  RowCosts Unknown = Unit {0}
+
+  row-costs : (r : Row) → RowCosts r → Costs (rowItems g r)
+  unfolding rowItems one width
+  row-costs (Number low span) h = (number-costs low span h, λ v. tt)
+  row-costs Variable h = (variable-costs, λ v. tt)
+  row-costs (FixedRun count r) h = costs-times count (g r) h
+  row-costs (CountedRun most r) h = (length-costs 0 most, λ v. costs-times (natural v) (g r) h)
+  row-costs (Record rs flags) h = presence-costs flags (fields g rs) (fields-costs rs h)
+  row-costs (Choice rs) h = ((λ v. rw length-bitsOf (h .0)), λ v. branch-costs rs (h .1) (h .2) (natural v))
+  row-costs (Octets least most) h = (length-costs least most, λ v. costs-times (natural v) _ (number-costs (pos 0) 255 (omega arith), λ w. tt))
+  row-costs Unknown h = tt
+
+-- ── the rows of LM ──
+
+abbrev before : ℕ → ℕ → Items
+before o = earlier stop o (items lm)
+
+at : (o : ℕ) (r : Row) → rowAt lm o ≡ r → RowCosts (before o) r → Costs (items lm o)
+at o r e h = subst (λ (p : Items). Costs p) (sym (items-row lm o ∙ ap (rowItems (before o)) e)) (row-costs (before o) r h)
+
+octet : Costs (items lm 0)
+unfolding lm rowAt rowOf u16 u32 signed width
+octet = at 0 (Number (pos 0) 255) refl (omega arith)
+
+two-octets : Costs (items lm 12)
+unfolding lm rowAt rowOf u16 u32 signed width
+two-octets = at 12 (Number (pos 0) 65535) refl (omega arith)
+
+contents : Costs (items lm 24)
+unfolding lm rowAt rowOf u16
+contents = at 24 (Octets 0 16383) refl tt
+
+element : Costs (items lm 30)
+unfolding lm rowAt rowOf u16 u16s earlier
+element = at 30 (Record (0 ∷ 24 ∷ []) (0 ∷ 0 ∷ [])) refl (octet, (contents, tt))
+
+extensions : Costs (items lm 44)
+unfolding lm rowAt rowOf u16 earlier
+extensions = at 44 (CountedRun 255 30) refl element
+
+version : Costs (items lm 52)
+unfolding lm rowAt rowOf u16 u32 signed width
+version = at 52 (Number (pos 0) 7) refl (omega arith)
+
+message-id : Costs (items lm 64)
+unfolding lm rowAt rowOf u16 u32 signed width
+message-id = at 64 (Number (pos 0) 4194303) refl (omega arith)
+
+hop-count : Costs (items lm 76)
+unfolding lm rowAt rowOf u16 u32 signed width
+hop-count = at 76 (Number (pos 0) 3) refl (omega arith)
+
+link-id : Costs (items lm 88)
+unfolding lm rowAt rowOf u16 earlier
+link-id = at 88 (FixedRun 8 0) refl octet
+
+null : Costs (items lm 96)
+unfolding lm rowAt rowOf u16 u16s earlier
+null = at 96 (Record (52 ∷ 44 ∷ []) (0 ∷ 1 ∷ [])) refl (version, (extensions, tt))
+
+n-hop : Costs (items lm 110)
+unfolding lm rowAt rowOf u16 u16s earlier
+n-hop = at 110 (Record (52 ∷ 64 ∷ 76 ∷ 44 ∷ []) (0 ∷ 0 ∷ 0 ∷ 1 ∷ [])) refl (version, (message-id, (hop-count, (extensions, tt))))
+
+original : Costs (items lm 132)
+unfolding lm rowAt rowOf u16 u16s earlier there width
+original = at 132 (Choice (96 ∷ 65535 ∷ 110 ∷ replicate 13 65535)) refl (omega arith, (null, (tt, (n-hop, reserved-costs (before 132) 13 tt))), tt)
+
+internal : Costs (items lm 170)
+unfolding lm rowAt rowOf u16 u16s earlier
+internal =
+    at 170 (Record (52 ∷ 0 ∷ 12 ∷ 88 ∷ 0 ∷ 44 ∷ 132 ∷ []) (0 ∷ 0 ∷ 0 ∷ 0 ∷ 0 ∷ 1 ∷ 0 ∷ [])) refl
+    (version, (octet, (two-octets, (link-id, (octet, (extensions, (original, tt)))))))
+
+network : Costs (items lm 204)
+unfolding lm rowAt rowOf u16 u16s earlier there width
+network = at 204 (Choice (96 ∷ 170 ∷ 110 ∷ replicate 13 65535)) refl (omega arith, (null, (internal, (n-hop, reserved-costs (before 204) 13 tt))), tt)
+
+address : Costs (items lm 242)
+unfolding lm rowAt rowOf u16
+address = at 242 Variable refl tt
+
+dissemination : Costs (items lm 246)
+unfolding lm rowAt rowOf u16 u16s earlier
+dissemination = at 246 (Record (242 ∷ 44 ∷ []) (0 ∷ 1 ∷ [])) refl (address, (extensions, tt))
+
+session : Costs (items lm 260)
+unfolding lm rowAt rowOf u16 u16s earlier
+session = at 260 (Record (12 ∷ 12 ∷ 44 ∷ []) (0 ∷ 0 ∷ 1 ∷ [])) refl (two-octets, (two-octets, (extensions, tt)))
+
+transport : Costs (items lm 278)
+unfolding lm rowAt rowOf u16 u16s earlier there width
+transport = at 278 (Choice (246 ∷ 260 ∷ replicate 126 65535)) refl (omega arith, (dissemination, (session, reserved-costs (before 278) 126 tt)), tt)
+
+user-data : Costs (items lm 540)
+unfolding lm rowAt rowOf u16
+user-data = at 540 (Octets 0 16383) refl tt
+
+message : Costs (items lm 546)
+unfolding lm rowAt rowOf u16 u16s earlier
+message = at 546 (Record (204 ∷ 278 ∷ 540 ∷ []) (0 ∷ 0 ∷ 0 ∷ [])) refl (network, (transport, (user-data, tt)))
+
+lm-costs : Costs (asks lm)
+unfolding asks
+lm-costs = subst (λ (o : ℕ). Costs (items lm o)) (sym lm-root) message
+
+-- ── at most as many values as bits ──
+
+costs-count : (p : Items) → Costs p → (vs : List ℤ) → Allows p vs → length vs ≤ length (encodingBits p vs)
+costs-count stop h [] a = omega arith
+costs-count stop h (v ∷ vs) a = absurd a
+costs-count (ask c k) h [] a = absurd a
+costs-count (ask c k) h (v ∷ vs) a = rw (length-append (valueBits c v)) (omega (arith, h .0 v, costs-count (k v) (h .1 v) vs (a .1)))
+
+pub lm-count : (vs : List ℤ) → Allows (asks lm) vs → length vs ≤ length (encodingBits (asks lm) vs)
+lm-count = costs-count (asks lm) lm-costs
+
+-- ── an item is not refused by 8 ──
+
+module _ {A : Type 0} (m : ℕ) where
+  provided-other : (t : Bool) (n : ℕ) (g : Got A) → n ≢ 8 → (g ≡ bad m → m ≢ 8) → provided t n g ≡ bad m → m ≢ 8
+  provided-other true n g h k e = k e
+  provided-other false n g h k e = λ q. let z : n ≡ m = cc in h (z ∙ q)
+
+  got-other : (v : A) (r : List Bool) → got v r ≡ bad m → m ≢ 8
+  got-other v r e = let z : _≡_ {A = ℕ} 0 1 = cc in absurd (omega arith)
+
+  bits-other : (k : ℕ) (b : List Bool) (f : ℕ → List Bool → Got A) → ((n : ℕ) (r : List Bool) → f n r ≡ bad m → m ≢ 8) → bitField k b f ≡ bad m → m ≢ 8
+  bits-other k b f h e = provided-other (leb k (length b)) 2 _ (λ q. omega (arith, q)) (h _ _) e
+
+  octets-other : (top form : ℕ) → form ≢ 8 → (b : List Bool) (f : ℕ → ℕ → List Bool → Got A) → ((c n : ℕ) (r : List Bool) → f c n r ≡ bad m → m ≢ 8)
+      → octetField top form b f ≡ bad m → m ≢ 8
+  octets-other top form n b f h e =
+      provided-other (leb 8 (length b)) 2 _ (λ q. omega (arith, q))
+      (provided-other (ltb (onesUpTo top b) top) form _ n (bits-other (7 * suc (onesUpTo top b)) (drop (suc (onesUpTo top b)) b) (f (onesUpTo top b)) (h (onesUpTo top b)))) e
+
+offset-other : (c : Code) (b : List Bool) (m : ℕ) → decodeOffset c b ≡ bad m → m ≢ 8
+offset-other (number low span) b m e = bits-other m (width span) b _ (λ n r. provided-other m (leb n span) 3 _ (λ q. omega (arith, q)) (got-other m n r)) e
+offset-other variable b m e = octets-other m 4 7 (λ q. omega (arith, q)) b _ (λ c n r. got-other m (base c + n) r) e
+offset-other (lengthWithin least most) b m e =
+    octets-other m 2 5 (λ q. omega (arith, q)) b _
+    (λ c n r. provided-other m (leb (leastOf c) n) 5 _ (λ q. omega (arith, q)) (provided-other m (leb least n && leb n most) 6 _ (λ q. omega (arith, q)) (got-other m n r))) e
+offset-other (index branches) b m e =
+    bits-other m (indexWidth branches) b _ (λ n r. provided-other m (getD branches n false) 4 _ (λ q. omega (arith, q)) (got-other m n r)) e
+
+item-other : (c : Code) (b : List Bool) (m : ℕ) → decodeItem c b ≡ bad m → m ≢ 8
+item-other c b m e = go (decodeOffset c b) refl e
+  where
+    go : (g : Got ℕ) → decodeOffset c b ≡ g → above (lowOf c) g ≡ bad m → m ≢ 8
+    go (got n r) q e = let z : _≡_ {A = ℕ} 0 1 = cc in absurd (omega arith)
+    go (bad n) q e = let z : n ≡ m = cc in offset-other c b m (q ∙ ap (λ n. bad n) z)
+
+-- ── room ──
+
+-- the bits after an item that takes one
+shorter : (c : Code) (b : List Bool) (v : ℤ) (r : List Bool) → 1 ≤ length (valueBits c v) → decodeItem c b ≡ got v r → suc (length r) ≤ length b
+shorter c b v r h e =
+    let l : length b ≡ length (valueBits c v) + length r = ap length (decodeItem-sound c b e .1) ∙ length-append (valueBits c v) r in
+    omega arith
+
+same-room : (p : Items) → Costs p → (b : List Bool) (room room′ at : ℕ) → length b ≤ room → length b ≤ room′ → readItems p b room at ≡ readItems p b room′ at
+same-room stop h b room room′ at l l′ = refl
+same-room (ask c k) h b room room′ at l l′ = go (decodeItem c b) refl room room′ l l′ (λ v. same-room (k v) (h .1 v))
+  where
+    go : (g : Got ℤ) → decodeItem c b ≡ g → (room room′ : ℕ) → length b ≤ room → length b ≤ room′
+        → ((v : ℤ) (b : List Bool) (room room′ at : ℕ) → length b ≤ room → length b ≤ room′ → readItems (k v) b room at ≡ readItems (k v) b room′ at)
+        → readOne at g room (λ v b′ room′. readItems (k v) b′ room′ (at + length (valueBits c v)))
+        ≡ readOne at g room′ (λ v b′ room′. readItems (k v) b′ room′ (at + length (valueBits c v)))
+    go (bad n) e room room′ l l′ ih = refl
+    go (got v r) e zero room′ l l′ ih = absurd (omega (arith, shorter c b v r (h .0 v) e))
+    go (got v r) e (suc room) zero l l′ ih = absurd (omega (arith, shorter c b v r (h .0 v) e))
+    go (got v r) e (suc room) (suc room′) l l′ ih =
+        let d = shorter c b v r (h .0 v) e in
+        ap (prepend (v ∷ [])) (ih v r room room′ (at + length (valueBits c v)) (omega arith) (omega arith))
+
+never-full : (p : Items) → Costs p → (b : List Bool) (room at : ℕ) → length b ≤ room → (n place : ℕ) → readItems p b room at ≡ stuck n place → n ≢ 8
+never-full stop h b room at l n place e = let z : _≡_ {A = ℕ} 0 1 = cc in absurd (omega arith)
+never-full (ask c k) h b room at l n place e = go (decodeItem c b) refl room l (λ v. never-full (k v) (h .1 v)) e
+  where
+    behind : (us : List ℤ) (x : Reading) → prepend us x ≡ stuck n place → x ≡ stuck n place
+    behind us (done vs at b) e = let z : _≡_ {A = ℕ} 0 1 = cc in absurd (omega arith)
+    behind us (stuck m at) e = e
+
+    go : (g : Got ℤ) → decodeItem c b ≡ g → (room : ℕ) → length b ≤ room
+        → ((v : ℤ) (b : List Bool) (room at : ℕ) → length b ≤ room → (n place : ℕ) → readItems (k v) b room at ≡ stuck n place → n ≢ 8)
+        → readOne at g room (λ v b′ room′. readItems (k v) b′ room′ (at + length (valueBits c v))) ≡ stuck n place → n ≢ 8
+    go (bad m) q room l ih e = let z : m ≡ n = cc in item-other c b n (q ∙ ap (λ n. bad n) z)
+    go (got v r) q zero l ih e = absurd (omega (arith, shorter c b v r (h .0 v) q))
+    go (got v r) q (suc room) l ih e =
+        let d = shorter c b v r (h .0 v) q in
+        ih v r room (at + length (valueBits c v)) (omega arith) n place (behind (v ∷ []) _ e)
+
+-- ── an LM ──
+
+decode-room : (s : List ℕ) (room : ℕ) → length s ≤ 65535 → enough ≤ room → decode (asks lm) s room ≡ decode (asks lm) s enough
+decode-room [] room h l = refl
+decode-room (o ∷ os) room h l =
+    let s = o ∷ os in
+    let b = length-unpack s in
+    ap (closeRead (length s)) (same-room (asks lm) lm-costs (unpack s) room enough 0 (omega arith) (omega arith))
+
+pub lm-room : (s : List ℕ) (room : ℕ) → enough ≤ room → readLmOutcome s room ≡ readLmOutcome s enough
+unfolding readLmOutcome
+lm-room s room l = go (leb (length s) 65535) refl
+  where
+    go : (t : Bool) → leb (length s) 65535 ≡ t
+        → readIf t 13 0 (readIf (leb 1 (length s)) 2 0 (readIf (eqb (lmVersion s) 3) 10 5 (readIf (leb (lmSubtype s) 2) 11 0 (decode (asks lm) s room))))
+        ≡ readIf t 13 0 (readIf (leb 1 (length s)) 2 0 (readIf (eqb (lmVersion s) 3) 10 5 (readIf (leb (lmSubtype s) 2) 11 0 (decode (asks lm) s enough))))
+    go false e = refl
+    go true e =
+        ap (λ x. readIf (leb 1 (length s)) 2 0 (readIf (eqb (lmVersion s) 3) 10 5 (readIf (leb (lmSubtype s) 2) 11 0 x)))
+        (decode-room s room (leb-true (length s) 65535 e) l)
+
+close-other : (n : ℕ) (x : Reading) → ((m at : ℕ) → x ≡ stuck m at → m ≢ 8) → (place : ℕ) → closeRead n x ≢ refuse 8 place
+close-other n (stuck m at) h place e = let z : m ≡ 8 = cc in h m at refl z
+close-other n (done vs at b) h place e = go (eqb n (size at) && allZero b) e
+  where
+    go : (t : Bool) → cond t (accept vs at) (refuse 9 at) ≢ refuse 8 place
+    go true e = let z : _≡_ {A = ℕ} 0 1 = cc in absurd (omega arith)
+    go false e = let z : _≡_ {A = ℕ} 9 8 = cc in absurd (omega arith)
+
+decode-other : (s : List ℕ) (room : ℕ) → length s ≤ 65535 → enough ≤ room → (place : ℕ) → decode (asks lm) s room ≢ refuse 8 place
+decode-other [] room h l place = λ e. let z : _≡_ {A = ℕ} 2 8 = cc in absurd (omega arith)
+decode-other (o ∷ os) room h l place =
+    let s = o ∷ os in
+    let b = length-unpack s in
+    close-other (length s) (readItems (asks lm) (unpack s) room 0) (never-full (asks lm) lm-costs (unpack s) room 0 (omega arith)) place
+
+readIf-other : (t : Bool) (n p : ℕ) (x : ReadOutcome) (place : ℕ) → n ≢ 8 → (t ≡ true → x ≢ refuse 8 place) → readIf t n p x ≢ refuse 8 place
+readIf-other true n p x place h k = k refl
+readIf-other false n p x place h k = λ e. let z : n ≡ 8 = cc in h z
+
+pub lm-never : (s : List ℕ) (room place : ℕ) → enough ≤ room → readLmOutcome s room ≢ refuse 8 place
+unfolding readLmOutcome
+lm-never s room place l =
+    readIf-other (leb (length s) 65535) 13 0 _ place (λ q. omega (arith, q))
+    (λ most. readIf-other (leb 1 (length s)) 2 0 _ place (λ q. omega (arith, q))
+    (λ some. readIf-other (eqb (lmVersion s) 3) 10 5 _ place (λ q. omega (arith, q))
+    (λ three. readIf-other (leb (lmSubtype s) 2) 11 0 _ place (λ q. omega (arith, q))
+    (λ subtype. decode-other s room (leb-true (length s) 65535 most) l place))))

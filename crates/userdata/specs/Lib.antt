@@ -1,0 +1,4 @@
+pub mod UserData
+pub mod Headers
+pub mod Placed
+pub mod Cases
