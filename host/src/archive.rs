@@ -3,7 +3,9 @@
 
 use crate::api::answer;
 use crate::by_name::{self, Name};
-use crate::codec::{value_octets, values_of, Answer, Call, Codec, Element};
+use crate::codec::{
+    value_octets, values_of, Answer, Bits, Call, Codec, Element, Part, Refusal, Taken,
+};
 use crate::linked::{self, probe, Numbers};
 
 /// The linked libraries.
@@ -33,7 +35,8 @@ impl Codec for Archive {
         match call {
             Call::Check | Call::Read | Call::Write => true,
             Call::ReadLm | Call::WriteLm | Call::Element => true,
-            Call::UserData | Call::Take | Call::Bench => false,
+            Call::UserData | Call::Take => true,
+            Call::Bench => false,
         }
     }
 
@@ -68,5 +71,46 @@ impl Codec for Archive {
     fn element(&self, id: u64, home: u64) -> Element {
         let narrow = |number: u64| u32::try_from(number).unwrap_or(u32::MAX);
         by_name::element(narrow(id), narrow(home))
+    }
+
+    /// The part itself is as long as its place says, and empty on a refusal.
+    fn user_data(&self, message: &[u8]) -> Result<Part, Refusal> {
+        let [number, place, start, length, part, rest] = probe::user_data(message);
+        assert_eq!(
+            [part, rest],
+            [length, 0],
+            "the part is not where it is said to be"
+        );
+        refusal(number, place).map(|()| Part { start, length })
+    }
+
+    /// A width above 32 bits is asked as the highest number, which is refused too.
+    fn take(&self, message: &[u8], widths: &[u64]) -> Taken {
+        let opened = match exactly(probe::open(message)) {
+            Answer::Accepted { .. } => Ok(()),
+            Answer::Refused { number, place } => Err(Refusal { number, place }),
+        };
+        let mut at = 0;
+        let steps = widths.iter().map(|&width| {
+            let k = u32::try_from(width).unwrap_or(u32::MAX);
+            let [number, place, bits, ..] = probe::take(message, at, k);
+            at = usize::try_from(place).expect("a place in memory");
+            refusal(number, place).map(|()| Bits {
+                number: bits,
+                place,
+            })
+        });
+        Taken {
+            opened,
+            steps: steps.collect(),
+        }
+    }
+}
+
+/// A refusal, where there is one.
+fn refusal(number: u64, place: u64) -> Result<(), Refusal> {
+    match u32::try_from(number).expect("a refusal's number") {
+        0 => Ok(()),
+        number => Err(Refusal { number, place }),
     }
 }

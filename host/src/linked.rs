@@ -151,6 +151,18 @@ pub mod probe {
         );
 
         fn probe_element(id: u32, home: u32) -> u32;
+
+        fn probe_user_data(message: *const u8, message_length: usize, numbers: *mut Numbers);
+
+        fn probe_open(message: *const u8, message_length: usize, numbers: *mut Numbers);
+
+        fn probe_take(
+            message: *const u8,
+            message_length: usize,
+            place: usize,
+            k: u32,
+            numbers: *mut Numbers,
+        );
     }
 
     /// The messages that have a name.
@@ -206,5 +218,26 @@ pub mod probe {
     pub fn element(id: u32, home: u32) -> u32 {
         // SAFETY: two numbers in, one out.
         unsafe { probe_element(id, home) }
+    }
+
+    pub fn user_data(message: &[u8]) -> Numbers {
+        let mut numbers = BEFORE;
+        // SAFETY: pointer and length are those of a live slice; only the numbers are written.
+        unsafe { probe_user_data(message.as_ptr(), message.len(), &mut numbers) };
+        numbers
+    }
+
+    pub fn open(message: &[u8]) -> Numbers {
+        let mut numbers = BEFORE;
+        // SAFETY: as in `user_data`.
+        unsafe { probe_open(message.as_ptr(), message.len(), &mut numbers) };
+        numbers
+    }
+
+    pub fn take(message: &[u8], place: usize, k: u32) -> Numbers {
+        let mut numbers = BEFORE;
+        // SAFETY: as in `user_data`; any place and any k may be asked.
+        unsafe { probe_take(message.as_ptr(), message.len(), place, k, &mut numbers) };
+        numbers
     }
 }

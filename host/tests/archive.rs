@@ -6,7 +6,7 @@ use std::time::{Instant, SystemTime, UNIX_EPOCH};
 
 use teyolxan_host::api;
 use teyolxan_host::archive::Archive;
-use teyolxan_host::codec::{Answer, Call, Codec, Element, Refusal};
+use teyolxan_host::codec::{Answer, Call, Codec, Element, Part, Refusal, Taken};
 use teyolxan_host::compare::compare;
 use teyolxan_host::reference::REFERENCE;
 use teyolxan_host::vectors::{parse, run, Vector};
@@ -22,13 +22,15 @@ const CASES: u64 = if cfg!(debug_assertions) {
 };
 
 /// The calls that the libraries offer.
-const CALLS: [Call; 6] = [
+const CALLS: [Call; 8] = [
     Call::Check,
     Call::Read,
     Call::Write,
     Call::ReadLm,
     Call::WriteLm,
     Call::Element,
+    Call::UserData,
+    Call::Take,
 ];
 
 fn vectors(text: &str) -> Vec<Vector> {
@@ -53,13 +55,16 @@ fn passes(codec: &dyn Codec, vectors: &[Vector]) -> [usize; CALLS.len()] {
 fn base() {
     assert_eq!(
         passes(&Archive, &vectors(BASE)),
-        [461, 1_055, 986, 572, 316, 456]
+        [461, 1_055, 986, 572, 316, 456, 505, 80]
     );
 }
 
 #[test]
 fn edges() {
-    assert_eq!(passes(&Archive, &vectors(EDGES)), [58, 61, 41, 15, 9, 3]);
+    assert_eq!(
+        passes(&Archive, &vectors(EDGES)),
+        [58, 61, 41, 15, 9, 3, 6, 2]
+    );
 }
 
 /// A number from the environment, or another.
@@ -135,7 +140,7 @@ impl Guarded {
     }
 
     /// Makes the call with moved octets.
-    fn show(&self, octets: &[u8], call: impl FnOnce(&[u8]) -> Answer) -> Answer {
+    fn show<A>(&self, octets: &[u8], call: impl FnOnce(&[u8]) -> A) -> A {
         let (memory, start) = self.around(octets);
         call(&memory[start..start + octets.len()])
     }
@@ -178,8 +183,16 @@ impl Codec for Guarded {
         self.lend(output, |output| Archive.write_lm(values, output))
     }
 
+    fn user_data(&self, message: &[u8]) -> Result<Part, Refusal> {
+        self.show(message, |message| Archive.user_data(message))
+    }
+
     fn element(&self, id: u64, home: u64) -> Element {
         Archive.element(id, home)
+    }
+
+    fn take(&self, message: &[u8], widths: &[u64]) -> Taken {
+        self.show(message, |message| Archive.take(message, widths))
     }
 }
 

@@ -1,7 +1,7 @@
 // The bench program (document 01): frames from standard input, a line for each on standard output, and the count of frames last.
 // The input is read as a stream into one buffer that holds any frame whole. Lines are written before the program waits for input.
 use frames::Frame;
-ghost use Prim.Native.Nat.{_+_, _-_, _*_, _<_, _≤_, min};
+ghost use Prim.Native.Nat.{_+_, _-_, _<_, _≤_, min};
 ghost use mathlib.Core.Path.{_≡_};
 ghost use lib.ListN.{length, take, drop};
 ghost use Rattle.bench.specs.Held.{Held, HeldAfter, afterFrame};
@@ -85,13 +85,9 @@ fn flush(output: &[u8], s: State) -> Led
     if !write(output, s.lines) {
         return Led::Lost;
     }
-    Led::Next(State {
-        from: s.from,
-        end: s.end,
-        lines: 0,
-        offset: s.offset,
-        frames: s.frames,
-    })
+    let mut next = s;
+    next.lines = 0;
+    Led::Next(next)
 }
 
 // Writes the lines that are held, and reads more of the input behind the octets at hand. There is room for some, so that none

@@ -1,6 +1,6 @@
 -- Document 01's example: its first message's values, its second's refusal and its count of frames have the lines given there.
 use mathlib.Core.Path.{_≡_, refl}
-use mathlib.Core.List.{[], _∷_, _++_}
+use mathlib.Core.List.{[], _∷_}
 use lib.IntN.{pos}
 use Rattle.encoding.specs.Reading.{accept, refuse}
 use Rattle.lines.specs.Text.{decimalWithin, decimal, signed, listed, numberLine, acceptedLine, refusedLine}

@@ -8,7 +8,7 @@ ghost use Rattle.lines.specs.Text.{Appended};
 ghost use Rattle.frames.specs.declared.Frame.the-variants.{Part};
 ghost use Rattle.frames.specs.Frames.{firstFrame, messageOf, messageLine, badLine, lastLine};
 
-// What the octets at hand begin with: a whole frame of a length and a kind, the beginning of one, or no frame whatever follows.
+// What octets begin with: a whole frame of a length and a kind, the beginning of one, or no frame whatever follows.
 pub enum Frame {
     Whole(usize, usize),
     Part,
@@ -18,14 +18,13 @@ pub enum Frame {
 // The octets before a frame's message.
 pub const HEADER: usize = 4;
 
-// The kinds.
 const LM: usize = 1;
 
 const SAM: usize = 2;
 
 const SRM: usize = 3;
 
-// A buffer of 65,536 octets has room behind any part of a frame.
+// What octets begin with. The length is tested before the kind, and behind any part of a frame a buffer of 65,536 octets has room.
 pub fn first(octets: &[u8]) -> Frame
     ensures { λ r. ⌜ r ≡ firstFrame (now (octets .entry)) ⌝ }
     ensures { λ r. ⌜ (r ≡ Part → length (now (octets .entry)) < 65535) ⌝ }

@@ -14,7 +14,7 @@ use Rattle.lines.specs.Text.{decimal, decimalWithin}
 glyph-digit : (d : ℕ) → d < 10 → glyph d ≡ 48 + d
 glyph-digit d h = ap (λ (b : Bool). cond b (48 + d) (87 + d)) (lt-ltb d 10 h)
 
--- a number above 0 needs no more digits than itself
+-- a number is below that power of ten
 below-power : (k : ℕ) → k < 10 ^ k
 below-power zero = omega arith
 below-power (suc k) = omega (arith, below-power k, pow-suc 10 k)
@@ -30,6 +30,7 @@ more-digits f n h = rw (le-ltb n 10 h)
 last-digit : (n : ℕ) → glyph (n % 10) ≡ 48 + n % 10
 last-digit n = glyph-digit (n % 10) (omega arith)
 
+-- digits that hold a number, none of them a zero in front, are its decimal notation
 within : (k f n : ℕ) → k < f → n < 10 ^ suc k → (0 < k → 10 ^ k ≤ n) → decimalWithin f n ≡ digits 10 (suc k) n
 within k zero n h below above = absurd (omega arith)
 within zero (suc f) n h below above =

@@ -1,11 +1,11 @@
 -- Laws of texts put one after another into a slice.
-use Prim.Native.Nat.{ℕ, suc, _+_, _≤_, _<_}
+use Prim.Native.Nat.{ℕ, suc, _+_, _<_}
 use mathlib.Core.Path.{_≡_, refl, sym, ap, _∙_}
 use mathlib.Core.List.{List, [], _∷_, _++_, append-assoc, append-nil}
 use native.Mathlib.Nat.{add-zero}
 use native.Mathlib.Numerals.{add-one}
 use native.Mathlib.Omega.{arith}
-use lib.ListN.{length, getD, take, set, length-append, length-set}
+use lib.ListN.{length, getD, take, set, length-append}
 use lib.Seq.{take-suc, take-suc-set}
 use lib.IntN.{ℤ}
 use Rattle.lines.specs.Text.{Appended, signed, listed}
@@ -24,7 +24,7 @@ put-both {first} {second} {third} {at} {next} {end} {s} {t} p q =
     }
 
 -- one octet more
-pub put-octet : (out : List ℕ) (at octet : ℕ) → at < length out → Appended out at (octet ∷ []) (set out at octet) (suc at)
+put-octet : (out : List ℕ) (at octet : ℕ) → at < length out → Appended out at (octet ∷ []) (set out at octet) (suc at)
 put-octet out at octet h = record { counted = omega arith; told = take-suc-set out at octet h }
 
 -- one octet more of a text

@@ -1,5 +1,8 @@
 // Exported for the tests in host/ alone: the calls by name, which the host's three calls do not reach. No part of the product.
+use bits::BitPlace;
 use elements::Home;
+use opened::Taken;
+use userdata::Found;
 
 // Reads an LM.
 #[no_mangle]
@@ -46,4 +49,31 @@ pub extern "C" fn probe_element(id: u32, home: u32) -> u32 {
         Home::Elsewhere => 1,
         Home::Unknown => 2,
     }
+}
+
+// The user data of an LM: the refusal's number and place, or the part's start and length; and the length of the part itself.
+#[no_mangle]
+pub extern "C" fn probe_user_data(message: &[u8], numbers: &mut [u64; 6]) {
+    let part = userdata::user_data(message).len() as u64;
+    let found = userdata::user_data_place(message);
+    *numbers = match found {
+        Found::At(span) => [0, 0, span.start.0 as u64, span.length.0 as u64, part, 0],
+        Found::Refused(refusal) => [refusal.number as u64, refusal.place as u64, 0, 0, part, 0],
+    };
+}
+
+// What opening a message answers.
+#[no_mangle]
+pub extern "C" fn probe_open(message: &[u8], numbers: &mut [u64; 6]) {
+    *numbers = teyolxan::told(opened::opening(message));
+}
+
+// Bits taken at a place of an opened message: the refusal's number, the place after, the bits' number.
+#[no_mangle]
+pub extern "C" fn probe_take(message: &[u8], place: usize, k: u32, numbers: &mut [u64; 6]) {
+    let taken = opened::take_from(message, BitPlace(place), k);
+    *numbers = match taken {
+        Taken::Number(number, next) => [0, next.0 as u64, number as u64, 0, 0, 0],
+        Taken::Refused(refusal) => [refusal.number as u64, refusal.place as u64, 0, 0, 0, 0],
+    };
 }

@@ -1,7 +1,6 @@
 -- `bench::run` meets its contract: it is safe, and ends by its count of turns. The invariant: the buffers keep their lengths, and what
 -- is held stays within them.
 use mathlib.Core.Path.{_≡_, _∙_}
-use native.Mathlib.Omega.{arith}
 use borrow.Author.Needs.{needs}
 use lib.ListN.{length}
 use Rattle.bench.specs.Held.{Held}

@@ -1,0 +1,21 @@
+-- `opened::held` meets its contract: by the test of the length.
+-- Assumes nothing.
+use native.Mathlib.Omega.{arith}
+use borrow.Author.Tests.{lt-ltb, le-ltb}
+use borrow.Author.Needs.{needs}
+use Rattle.opened.proofs.held.Statement.{statement}
+use Rattle.opened.proofs.held.Tie as tie
+use Rattle.opened.proofs.held.Reads as reads
+use Rattle.opened.proofs.held.Lts as lts
+
+slice-aggregate-result : tie.Need-slice-aggregate-result
+slice-aggregate-result c = search needs
+
+returns : tie.Need-returns
+returns c = (simp (lt-ltb _ _ (c .before .if1 .taken)), search needs)
+
+returns-2 : tie.Need-returns-2
+returns-2 c = (simp (le-ltb _ _ (c .if1 .left)), omega (arith, c .if1 .left))
+
+pub held-spec : {M : Type 1} → statement M
+held-spec = tie.close (tie.spec slice-aggregate-result returns returns-2)

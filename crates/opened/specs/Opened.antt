@@ -1,0 +1,46 @@
+-- What an opened message holds, what opening answers, and what taking k bits at a place gives, for every message, place and k
+-- (document 01, "An opened message keeps the lent octets and a bit place together").
+use Prim.Native.Nat.{ℕ}
+use mathlib.Core.Bool.{cond}
+use mathlib.Core.List.{List, [], _∷_}
+use lib.Dec.{ltb}
+use lib.ListN.{length}
+use Rattle.bits.specs.Access.{fetched}
+use Rattle.bits.specs.declared.Fetched.{Fetched}
+use Rattle.bits.specs.declared.Fetched.the-variants.{Bits, Short}
+use Rattle.answer.specs.declared.Answer.{Answer}
+use Rattle.answer.specs.Numbers.{accepted, refused, tooLong, aboveMost, messageEnds}
+use Rattle.opened.specs.declared.Taken.{Taken}
+use Rattle.opened.specs.declared.Taken.the-variants.{Number, Refused}
+
+-- the octets that opening holds: none above 65,535
+abbrev pub kept : List ℕ → List ℕ
+kept m = cond (ltb 65535 (length m)) [] m
+
+-- what opening answers: nothing to count, or 13 at place 0
+abbrev pub opening : List ℕ → Answer
+opening m = cond (ltb 65535 (length m)) (refused tooLong 0) (accepted 0 0 0)
+
+-- a refusal at p
+abbrev pub refusedAt : ℕ → ℕ → Taken
+refusedAt number p = Refused (record { number = number; place = p })
+
+-- what was fetched at p, as an answer
+abbrev pub ofFetched : ℕ → Fetched → Taken
+ofFetched p (Bits n next) = Number n next
+ofFetched p Short = refusedAt messageEnds p
+
+-- k bits taken at p: above 32 is 6, then too few bits is 2
+abbrev pub taken : List ℕ → ℕ → ℕ → Taken
+taken m p k = cond (ltb 32 k) (refusedAt aboveMost p) (ofFetched p (fetched m p k))
+
+-- the place after: k on, or where it was
+abbrev pub placeOf : Taken → ℕ
+placeOf (Number n next) = next .0
+placeOf (Refused r) = r .place
+
+-- an outcome in document 01's numbers: the refusal's, 0 where bits were taken; the place after, which is the one reported; the
+-- bits' number, 0 where none were taken
+abbrev pub toldOf : Taken → List ℕ
+toldOf (Number n next) = 0 ∷ next .0 ∷ n ∷ []
+toldOf (Refused r) = r .number ∷ r .place ∷ 0 ∷ []
