@@ -6,4 +6,5 @@ pub mod Bools
 pub mod ByKind
 pub mod Steps
 pub mod Loops
+pub mod Halves
 pub mod Walk

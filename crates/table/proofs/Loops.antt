@@ -9,8 +9,7 @@ use native.Mathlib.Omega.{arith}
 use native.Mathlib.Decide.{ℕ-discrete}
 use lib.Dec.{eqb}
 use borrow.Author.Tests.{le-leb, lt-leb, ne-eqb}
-use Rattle.octets.specs.Numbers.{u16, u16s}
-use Rattle.item.specs.Answers.{there}
+use Rattle.octets.specs.Numbers.{u16, u16s, there}
 use Rattle.table.specs.Rules.{flagsInBounds, branches, deepest}
 use Rattle.table.specs.Verdict.{depthIn}
 use Rattle.table.specs.Steps.{kept, deepestFrom}

@@ -10,9 +10,8 @@ use native.Mathlib.Omega.{arith}
 use lib.Dec.{leb, eqb}
 use lib.ListN.{length, getD, List·getD-map}
 use borrow.Author.Tests.{leb-true, eqb-true, ne-eqb}
-use Rattle.octets.specs.Numbers.{u16, u32, signed, u16s}
+use Rattle.octets.specs.Numbers.{u16, u32, signed, u16s, there}
 use Rattle.octets.proofs.Numbers.{length-u16s, getD-u16s}
-use Rattle.item.specs.Answers.{there}
 use Rattle.table.specs.Rows.{Row, Number, Variable, FixedRun, CountedRun, Record, Choice, Octets, Unknown, rowOf, rowAt, rowLength}
 use Rattle.table.specs.Rules.{Starts, All, Earlier, references, branches, within, flagsInBounds, knownKind, numbersInBounds, RowObeys, Obeys}
 use Rattle.table.proofs.Bools.{within-inside}

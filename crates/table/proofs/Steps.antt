@@ -10,8 +10,7 @@ use native.Mathlib.Numerals.{add-one}
 use lib.Dec.{leb, eqb}
 use lib.ListN.{length}
 use borrow.Author.Tests.{leb-true, le-leb, lt-leb, eqb-true, eq-eqb, ne-eqb, not-true}
-use Rattle.octets.specs.Numbers.{u16, u16s}
-use Rattle.item.specs.Answers.{there}
+use Rattle.octets.specs.Numbers.{u16, u16s, there}
 use Rattle.table.specs.Rows.{rowOf, rowAt, rowLength}
 use Rattle.table.specs.Rules.{within, numbersInBounds, flagsInBounds, references, branches, hasBranch, someBranch, deepest}
 use Rattle.table.specs.Verdict.{depthIn, allPassed, rowTest, rowDepth}

@@ -1,8 +1,8 @@
 -- The check's loop over the rows: the scan of Verdict.antt, a row at a time.
 -- Assumes nothing.
-use Prim.Native.Nat.{ℕ, zero, suc, _+_, _≤_, _<_}
+use Prim.Native.Nat.{ℕ, zero, suc, _+_, _*_, _/_, _%_, _≤_, _<_}
 use mathlib.Core.Bool.{Bool, true, false, cond, _&&_, and-eq-true-iff}
-use mathlib.Core.Path.{_≡_, refl, sym, ap, _∙_}
+use mathlib.Core.Path.{_≡_, refl, sym, ap, ap₂, _∙_}
 use mathlib.Core.List.{List}
 use native.Mathlib.Omega.{arith}
 use lib.Dec.{leb, eqb}
@@ -13,10 +13,11 @@ use Rattle.answer.specs.Numbers.{accepted, refused}
 use Rattle.table.specs.Rows.{rowAt, rowLength}
 use Rattle.table.specs.Rules.{knownKind}
 use Rattle.table.specs.Verdict.{rowTest, rowDepth, scan, obeys, verdict, checked}
-use Rattle.table.specs.Steps.{rowTested}
+use Rattle.table.specs.Steps.{spread, rowTested}
 use Rattle.table.specs.declared.rules.RowTest.the-variants.{Sound, Broken}
 use Rattle.table.proofs.Bools.{cond-second, and-false}
 use Rattle.table.proofs.Decides.{length-four}
+use Rattle.table.proofs.Halves.{length-even, spread-set, spread-zeros}
 
 -- ── one row ──
 
@@ -38,8 +39,8 @@ broken-fails : (t : List ℕ) (o : ℕ) (d : List ℕ) → rowTested t o d ≡ B
 unfolding rowTested
 broken-fails t o d e = cond-second (rowTest t o d) _ Broken (λ q. let z : _≡_ {A = ℕ} 0 1 = cc in omega arith) e
 
--- a row that passes ends inside the table, and has four octets at least
-pub row-moves : (t : List ℕ) (o : ℕ) (d : List ℕ) (l x : ℕ) → rowTested t o d ≡ Sound l x → (o + l ≤ length t) × (4 ≤ l)
+-- a row that passes ends inside the table, and has four octets at least and an even number of them
+pub row-moves : (t : List ℕ) (o : ℕ) (d : List ℕ) (l x : ℕ) → rowTested t o d ≡ Sound l x → (o + l ≤ length t) × (4 ≤ l) × (l % 2 ≡ 0)
 unfolding rowTest
 row-moves t o d l x e =
     let p = sound-passes t o d l x e in
@@ -50,18 +51,22 @@ row-moves t o d l x e =
     let i = leb-true (o + u16 t o) (length t) (b .0) in
     let s = eqb-true (u16 t o) (rowLength (rowAt t o)) (w .0) in
     let f = length-four (rowAt t o) (k .0) in
-    (omega (arith, p .length-is), omega (arith, p .length-is))
+    let v = length-even (rowAt t o) in
+    (omega (arith, p .length-is), omega (arith, p .length-is), omega (arith, p .length-is))
 
 -- ── the rows that are left ──
 
--- the scan from the start is the scan from o on, which has rows enough
+-- the scan from the start is the scan from o on, which has rows enough; o is even, and h has the depths at half the offsets
 abbrev pub Left : List ℕ → List ℕ → ℕ → List ℕ → Type 0
-Left t d₀ o d = (g : ℕ) × (length t < o + suc g) × (scan (suc (length t)) t 0 d₀ ≡ scan (suc g) t o d)
+Left t d₀ o h = (g : ℕ) × (length t < o + suc g) × (scan (suc (length t)) t 0 d₀ ≡ scan (suc g) t o (spread h)) × (o % 2 ≡ 0)
 
-pub left-begins : (t d₀ : List ℕ) → Left t d₀ 0 d₀
-left-begins t d₀ = (length t, omega arith, refl)
+pub left-begins : (t : List ℕ) (n : ℕ) → Left t (replicate (2 * n) 0) 0 (replicate n 0)
+left-begins t n = (length t, omega arith, ap (scan (suc (length t)) t 0) (sym (spread-zeros n)), refl)
 
-module _ (t d₀ : List ℕ) (o : ℕ) (d : List ℕ) (left : Left t d₀ o d) where
+module _ (t d₀ : List ℕ) (o : ℕ) (h : List ℕ) (left : Left t d₀ o h) where
+  abbrev d : List ℕ
+  d = spread h
+
   pub left-ends : length t ≡ o → scan (suc (length t)) t 0 d₀ ≡ true
   left-ends e = left .2 ∙ rw (eq-eqb o (length t) (sym e))
 
@@ -76,14 +81,17 @@ module _ (t d₀ : List ℕ) (o : ℕ) (d : List ℕ) (left : Left t d₀ o d) w
     more zero h = absurd (omega arith)
     more (suc k) h = (k, refl)
 
-    pub left-on : (l x : ℕ) → rowTested t o d ≡ Sound l x → Left t d₀ (o + l) (set d o x)
+    pub left-on : (l x : ℕ) → rowTested t o d ≡ Sound l x → Left t d₀ (o + l) (set h (o / 2) x)
     left-on l x e =
         let p = sound-passes t o d l x e in
         let m = more (left .0) (left .1) in
-        let f = row-moves t o d l x e .1 in (
+        let f = row-moves t o d l x e in (
           m .0,
-          omega (arith, left .1, m .1),
-          left .2 ∙ scan-row (left .0) ∙ rw (p .test, ← p .length-is, ← p .depth-is) (ap (λ n. scan n t (o + l) (set d o x)) (m .1)),
+          omega (arith, left .1, m .1, f .1),
+          left .2
+              ∙ scan-row (left .0)
+              ∙ rw (p .test, ← p .length-is, ← p .depth-is) (ap₂ (λ n d. scan n t (o + l) d) (m .1) (sym (spread-set h o x (left .3)))),
+          omega (arith, left .3, f .2),
         )
 
 -- ── the verdict ──

@@ -1,5 +1,5 @@
 -- What document 01's table of rows says by the number of a kind. The contracts of the row type cite it; that it says the same
--- as Rows.antt and Rules.antt is shown in proofs/Kinds.antt.
+-- as Rows.antt and Rules.antt is shown in proofs/ByKind.antt.
 use Prim.Native.Nat.{ℕ, _+_, _*_}
 use mathlib.Core.Bool.{Bool, cond}
 use mathlib.Core.List.{List}

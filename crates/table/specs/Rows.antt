@@ -7,7 +7,8 @@ use lib.IntN.{ℤ}
 use lib.ListN.{length}
 use Rattle.octets.specs.Numbers.{u16, u32, signed, u16s}
 
--- a row (document 01's term), by its kind
+-- a row (document 01's term), by its kind. The least and the most of a length belong to the row; in the rows of document 01 the
+-- least is 0, and the table gives the most alone
 pub data Row : Type 0 where
   Number : ℤ → ℕ → Row  -- kind 1: low, span
   Variable : Row  -- kind 2
@@ -15,7 +16,7 @@ pub data Row : Type 0 where
   CountedRun : ℕ → ℕ → Row  -- kind 4: most, reference
   Record : List ℕ → List ℕ → Row  -- kind 5: the fields' references and flags
   Choice : List ℕ → Row  -- kind 6: the branches' references
-  Octets : ℕ → ℕ → Row  -- kind 7: least and most; the least is no number of the table
+  Octets : ℕ → ℕ → Row  -- kind 7: least, most
   Unknown : Row  -- any other kind
 
 -- the row at o, read as being of a kind

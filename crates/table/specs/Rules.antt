@@ -1,14 +1,13 @@
 -- What document 01 asks of a table, in its words and order: size; rows that fill the table exactly; then for each row, used
 -- or not, its kind, its length, its numbers, its references, a branch that isn't reserved, its depth.
--- A reader believes this file and Rows.antt. Nothing in it mentions the check.
+-- A reader believes this file, Rows.antt, Offsets.antt and octets' specs/Numbers.antt. Nothing in them mentions the check.
 use Prim.Native.Nat.{ℕ, zero, suc, _+_, _≤_, _<_, max}
 use mathlib.Core.Bool.{Bool, true, false, cond, _&&_, _||_}
 use mathlib.Core.Path.{_≡_}
 use mathlib.Core.List.{List, [], _∷_}
 use lib.Dec.{leb}
 use lib.ListN.{length}
-use Rattle.octets.specs.Numbers.{u16}
-use Rattle.item.specs.Answers.{there}
+use Rattle.octets.specs.Numbers.{u16, there}
 use Rattle.table.specs.Offsets.{byOffset}
 use Rattle.table.specs.Rows.{Row, Number, Variable, FixedRun, CountedRun, Record, Choice, Octets, Unknown, rowAt, rowLength}
 

@@ -1,7 +1,7 @@
 -- What the steps of the check answer, from the definitions of Kinds.antt, Rules.antt and Verdict.antt.
 use Prim.Native.Nat.{ℕ, _+_, max}
 use mathlib.Core.Bool.{Bool, cond, _&&_}
-use mathlib.Core.List.{List}
+use mathlib.Core.List.{List, [], _∷_}
 use lib.Dec.{leb, eqb}
 use lib.ListN.{length}
 use Rattle.octets.specs.Numbers.{u16}
@@ -14,6 +14,11 @@ use Rattle.table.specs.declared.rules.Below.{Below}
 use Rattle.table.specs.declared.rules.Below.the-variants.{Depth, NoRow}
 use Rattle.table.specs.declared.rules.RowTest.{RowTest}
 use Rattle.table.specs.declared.rules.RowTest.the-variants.{Sound, Broken}
+
+-- the depth of each row at its offset, from those that stand at half the offsets: every row starts at an even one
+unfoldable pub spread : List ℕ → List ℕ
+spread [] = []
+spread (x ∷ xs) = x ∷ 0 ∷ spread xs
 
 -- the row at o as one of a kind, up to its count
 unfoldable pub headTest : List ℕ → ℕ → ℕ → Bool

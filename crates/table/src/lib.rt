@@ -20,7 +20,8 @@ fn broken() -> Answer
     Answer::refused(Refusal::BROKEN_TABLE, 0)
 }
 
-// Whether a table obeys the rules. One pass over its rows: the depth of each that passes is kept at its offset.
+// Whether a table obeys the rules. One pass over its rows: the depth of each that passes is kept at half its offset,
+// which is even.
 pub fn check(table: &[u8]) -> Answer
     ensures { λ r. ⌜ r ≡ checked (verdict (now (table .entry))) ⌝ }
 {
@@ -30,14 +31,15 @@ pub fn check(table: &[u8]) -> Answer
     if Row::MOST_TABLE < table.len() {
         return broken();
     }
-    let mut depths = [0u8; Row::MOST_TABLE];
+    let mut depths = [0u8; Row::MOST_TABLE / 2];
     let mut at = 0;
     while at < table.len() {
         let test = rules::row_test(table, at, &depths);
         let RowTest::Sound(length, depth) = test else {
             return broken();
         };
-        depths[at] = depth;
+        let half = at / 2;
+        depths[half] = depth;
         at += length;
     }
     Answer::accepted(0, BitPlace(0), OctetSize(0))

@@ -4,6 +4,7 @@
 ghost use mathlib.Core.Path.{_≡_};
 ghost use Prim.Native.Nat.{_+_, _*_, _≤_, _<_};
 ghost use lib.ListN.{length};
+ghost use lib.Signed.{mag};
 ghost use Rattle.octets.specs.Numbers.{u16, u32, signed};
 ghost use Rattle.table.specs.Rules.{within};
 ghost use Rattle.table.specs.Kinds.{lengthOf, hasCount, leastCount, mostCount, countOf, referenceCount, referenceStep, flagCount, leastBelow};
@@ -36,7 +37,7 @@ impl Row {
     pub const MOST_DEPTH: u8 = 32;
 
     // The reference of a reserved branch.
-    pub const RESERVED: usize = 65535;
+    pub const RESERVED: usize = item::RESERVED;
 
     // The flag of an optional field.
     pub const OPTIONAL: usize = 1;
@@ -206,7 +207,7 @@ impl Row {
     // The low of a number.
     pub fn low_at(table: &[u8], at: usize) -> i64
         requires { ⌜ at + 12 ≤ length (now table) ⌝ }
-        ensures { λ r. ⌜ r ≡ signed (u32 (now (table .entry)) (at + 4)) ⌝ }
+        ensures { λ r. ⌜ (r ≡ signed (u32 (now (table .entry)) (at + 4))) × (mag r ≤ 2147483648) ⌝ }
     {
         octets::signed_of(octets::u32_at(table, at + Row::START))
     }

@@ -6,9 +6,9 @@ ghost use mathlib.Core.List.{[], _∷_};
 ghost use Prim.Native.Nat.{_+_, _*_, _≤_, _<_};
 ghost use lib.Dec.{eqb};
 ghost use lib.ListN.{length, getD};
-ghost use Rattle.octets.specs.Numbers.{u16s};
+ghost use Rattle.octets.specs.Numbers.{u16, u16s};
 ghost use Rattle.table.specs.Rules.{flagsInBounds};
-ghost use Rattle.table.specs.Steps.{headAt, kept, deepestFrom, rowTested};
+ghost use Rattle.table.specs.Steps.{spread, headAt, kept, deepestFrom, rowTested};
 
 // What the test of a row finds: its length and its depth, or that it breaks a rule.
 pub enum RowTest {
@@ -32,17 +32,13 @@ enum Below {
     NoRow,
 }
 
-// The row at an offset: room for a row, its length, its kind, the kind's length, the count.
-fn head_at(table: &[u8], at: usize) -> Head
-    requires { ⌜ (at < length (now table)) × (length (now table) ≤ 4096) ⌝ }
+// The row at an offset, whose kind is given: its length, its kind, the kind's length, the count.
+fn head_at(table: &[u8], at: usize, kind: usize) -> Head
+    requires { ⌜ (at + 4 ≤ length (now table)) × (kind ≡ u16 (now table) (at + 2)) ⌝ }
     ensures { λ r. ⌜ r ≡ headAt (now (table .entry)) at ⌝ }
 {
     let left = table.len() - at;
-    if left < Row::START {
-        return Head::Wrong;
-    }
     let length = Row::length_at(table, at);
-    let kind = Row::kind_at(table, at);
     if left < length {
         return Head::Wrong;
     }
@@ -86,11 +82,15 @@ fn flags_sound(table: &[u8], from: usize, n: usize) -> bool
     true
 }
 
-// The depth of the row at an offset, or 0 if none that starts there has passed.
+// The depth of the row at an offset, or 0 if none that starts there has passed. No row starts at an odd offset.
 fn depth_at(depths: &[u8], at: usize) -> u8
-    ensures { λ r. ⌜ r ≡ getD (now (depths .entry)) at 0 ⌝ }
+    ensures { λ r. ⌜ r ≡ getD (spread (now (depths .entry))) at 0 ⌝ }
 {
-    if at < depths.len() { depths[at] } else { 0 }
+    if at % 2 != 0 {
+        return 0;
+    }
+    let half = at / 2;
+    if half < depths.len() { depths[half] } else { 0 }
 }
 
 // Whether a reference is that of a reserved branch, where there may be one.
@@ -102,7 +102,7 @@ fn is_reserved(reserved: bool, reference: usize) -> bool
 
 // A depth or that of the row referred to, the deeper of the two. A reserved branch changes nothing.
 fn deeper(depth: u8, reference: usize, reserved: bool, depths: &[u8]) -> Below
-    ensures { λ r. ⌜ r ≡ deepestFrom (now (depths .entry)) depth (kept reserved (reference ∷ [])) ⌝ }
+    ensures { λ r. ⌜ r ≡ deepestFrom (spread (now (depths .entry))) depth (kept reserved (reference ∷ [])) ⌝ }
 {
     if is_reserved(reserved, reference) {
         return Below::Depth(depth);
@@ -121,7 +121,7 @@ fn deeper(depth: u8, reference: usize, reserved: bool, depths: &[u8]) -> Below
 // The deepest row that n references refer to, the first at an offset and each a step after the one before.
 fn deepest(table: &[u8], from: usize, step: usize, n: usize, reserved: bool, depths: &[u8]) -> Below
     requires { ⌜ (2 ≤ step) × (0 < n → from + step * n ≤ length (now table)) ⌝ }
-    ensures { λ r. ⌜ r ≡ deepestFrom (now (depths .entry)) 0 (kept reserved (u16s (now (table .entry)) from step n)) ⌝ }
+    ensures { λ r. ⌜ r ≡ deepestFrom (spread (now (depths .entry))) 0 (kept reserved (u16s (now (table .entry)) from step n)) ⌝ }
 {
     let mut depth = 0;
     let mut at = from;
@@ -138,12 +138,13 @@ fn deepest(table: &[u8], from: usize, step: usize, n: usize, reserved: bool, dep
     Below::Depth(depth)
 }
 
-// The row at an offset against every rule. `depths` has the depth of each row before it at the row's offset, and 0 elsewhere.
-pub fn row_test(table: &[u8], at: usize, depths: &[u8]) -> RowTest
-    requires { ⌜ (at < length (now table)) × (length (now table) ≤ 4096) ⌝ }
-    ensures { λ r. ⌜ r ≡ rowTested (now (table .entry)) at (now (depths .entry)) ⌝ }
+// The row at an offset, whose kind is known, against every rule. `depths` has the depth of each row before it at half the row's
+// offset, and 0 elsewhere.
+fn kind_test(table: &[u8], at: usize, known: usize, depths: &[u8]) -> RowTest
+    requires { ⌜ (at + 4 ≤ length (now table)) × (length (now table) ≤ 4096) × (known ≡ u16 (now table) (at + 2)) ⌝ }
+    ensures { λ r. ⌜ r ≡ rowTested (now (table .entry)) at (spread (now (depths .entry))) ⌝ }
 {
-    let head = head_at(table, at);
+    let head = head_at(table, at, known);
     let Head::Whole {
         length,
         kind,
@@ -168,4 +169,25 @@ pub fn row_test(table: &[u8], at: usize, depths: &[u8]) -> RowTest
         return RowTest::Broken;
     }
     RowTest::Sound(length, depth + 1)
+}
+
+// The row at an offset: room for a row, then every rule. An arm for each kind lets the compiler settle what goes by the kind.
+pub fn row_test(table: &[u8], at: usize, depths: &[u8]) -> RowTest
+    requires { ⌜ (at < length (now table)) × (length (now table) ≤ 4096) ⌝ }
+    ensures { λ r. ⌜ r ≡ rowTested (now (table .entry)) at (spread (now (depths .entry))) ⌝ }
+{
+    if table.len() - at < Row::START {
+        return RowTest::Broken;
+    }
+    let kind = Row::kind_at(table, at);
+    match kind {
+        Row::NUMBER => kind_test(table, at, Row::NUMBER, depths),
+        Row::VARIABLE => kind_test(table, at, Row::VARIABLE, depths),
+        Row::FIXED_RUN => kind_test(table, at, Row::FIXED_RUN, depths),
+        Row::COUNTED_RUN => kind_test(table, at, Row::COUNTED_RUN, depths),
+        Row::RECORD => kind_test(table, at, Row::RECORD, depths),
+        Row::CHOICE => kind_test(table, at, Row::CHOICE, depths),
+        Row::OCTETS => kind_test(table, at, Row::OCTETS, depths),
+        _ => RowTest::Broken,
+    }
 }

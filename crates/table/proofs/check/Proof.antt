@@ -6,7 +6,7 @@ use denote.Ref.{now}
 use Prim.Native.Nat.{_≤_, _-_}
 use mathlib.Core.Path.{_≡_, sym, _∙_}
 use lib.ListN.{length, replicate}
-use Rattle.table.specs.Steps.{rowTested}
+use Rattle.table.specs.Steps.{spread, rowTested}
 use Rattle.table.specs.declared.rules.RowTest.the-variants.{Sound}
 use Rattle.table.proofs.Walk.{Left, left-begins, left-ends, left-broken, left-on, row-moves, small-broken, large-broken, scan-broken, scan-passed}
 use Rattle.table.proofs.check.Statement.{statement}
@@ -14,7 +14,7 @@ use Rattle.table.proofs.check.Tie as tie
 
 abbrev Inv-loop : tie.InvT-loop
 Inv-loop table depths₀ at₀ depths at =
-    (at ≤ length table) × (length depths ≡ 4096) × Left table (replicate 4096 0) at depths
+    (at ≤ length table) × (length depths ≡ 2048) × Left table (replicate 4096 0) at depths
 
 abbrev μ-loop : tie.MeasureT-loop
 μ-loop table depths₀ at₀ depths at = length table - at
@@ -26,7 +26,7 @@ returns-2 : tie.Need-returns-2 Inv-loop μ-loop
 returns-2 c = c .broken2 .ensures ∙ large-broken (now (c .before .before .before .before .args .table)) (omega arith)
 
 loop-holds : tie.Need-loop-holds Inv-loop μ-loop
-loop-holds c = (search needs, search needs, left-begins (now (c .before .before .before .args .table)) (replicate 4096 0))
+loop-holds c = (search needs, search needs, left-begins (now (c .before .before .before .args .table)) 2048)
 
 returns-3 : tie.Need-returns-3 Inv-loop μ-loop
 returns-3 c =
@@ -38,7 +38,7 @@ returns-3 c =
 
 -- a row that passes
 sound : (c : tie.After-known-told Inv-loop μ-loop)
-    → rowTested (now (c .before .before .before .before .before .before .before .before .before .before .args .table)) (c .before .before .before .before .before .before .loop .at) (c .before .before .before .before .before .before .loop .depths) ≡ Sound (c .before .test .given .0 .0) (c .before .test .given .0 .1 .0)
+    → rowTested (now (c .before .before .before .before .before .before .before .before .before .before .args .table)) (c .before .before .before .before .before .before .loop .at) (spread (c .before .before .before .before .before .before .loop .depths)) ≡ Sound (c .before .test .given .0 .0) (c .before .test .given .0 .1 .0)
 sound c = sym (c .before .before .before .row-test .ensures) ∙ c .before .test .given .1
 
 array-write-depths : tie.Need-array-write-depths Inv-loop μ-loop

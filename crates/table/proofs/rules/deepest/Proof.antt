@@ -7,7 +7,7 @@ use Prim.Native.Nat.{_+_, _*_, _≤_, _<_}
 use mathlib.Core.Path.{_≡_, refl, sym, _∙_}
 use lib.ListN.{length}
 use Rattle.octets.specs.Numbers.{u16s}
-use Rattle.table.specs.Steps.{kept, deepestFrom}
+use Rattle.table.specs.Steps.{spread, kept, deepestFrom}
 use Rattle.table.proofs.Loops.{step-more, references-next, references-stop, references-end}
 use Rattle.table.proofs.rules.deepest.Statement.{statement}
 use Rattle.table.proofs.rules.deepest.Tie as tie
@@ -15,7 +15,7 @@ use Rattle.table.proofs.rules.deepest.Tie as tie
 abbrev Inv-loop : tie.InvT-loop
 Inv-loop table from step n reserved depths depth₀ at₀ left₀ depth at left =
     (0 < left → at + step * left ≤ length table)
-    × (deepestFrom depths 0 (kept reserved (u16s table from step n)) ≡ deepestFrom depths depth (kept reserved (u16s table at step left)))
+    × (deepestFrom (spread depths) 0 (kept reserved (u16s table from step n)) ≡ deepestFrom (spread depths) depth (kept reserved (u16s table at step left)))
 
 abbrev μ-loop : tie.MeasureT-loop
 μ-loop table from step n reserved depths depth₀ at₀ left₀ depth at left = left
@@ -35,7 +35,7 @@ returns c =
     let e = c .enum-told .given .1 in
     e
     ∙ sym (i .inv .1
-    ∙ references-stop (now (a .depths)) (i .depth) (a .reserved) (now (a .table)) (a .step) (i .at) (i .left) (c .before .before .before .u16-at .result)
+    ∙ references-stop (spread (now (a .depths))) (i .depth) (a .reserved) (now (a .table)) (a .step) (i .at) (i .left) (c .before .before .before .u16-at .result)
     (c .before .before .before .before .loop-test .taken) (c .before .before .before .u16-at .ensures .0) (sym (c .before .before .deeper .ensures) ∙ e))
 
 add-at : tie.Need-add-at Inv-loop μ-loop
@@ -50,7 +50,7 @@ loop-again c =
     let more = c .before .before .before .before .before .loop-test .taken in (
       λ m. omega (arith, i .inv .0 more, step-more (a .step) (i .left) more),
       i .inv .1
-          ∙ references-next (now (a .depths)) (i .depth) (a .reserved) (now (a .table)) (a .step) (i .at) (i .left) (c .before .before .before .before .u16-at .result)
+          ∙ references-next (spread (now (a .depths))) (i .depth) (a .reserved) (now (a .table)) (a .step) (i .at) (i .left) (c .before .before .before .before .u16-at .result)
           more (c .before .before .before .before .u16-at .ensures .0) (c .before .below .given .0 .0) (sym (c .before .before .before .deeper .ensures) ∙ c .before .below .given .1),
     )
 
@@ -58,7 +58,7 @@ returns-2 : tie.Need-returns-2 Inv-loop μ-loop
 returns-2 c =
     let a = c .before .before .before .before .args in
     let i = c .before .loop in
-    sym (i .inv .1 ∙ references-end (now (a .depths)) (i .depth) (a .reserved) (now (a .table)) (a .step) (i .at) (i .left) (omega arith))
+    sym (i .inv .1 ∙ references-end (spread (now (a .depths))) (i .depth) (a .reserved) (now (a .table)) (a .step) (i .at) (i .left) (omega arith))
 
 pub deepest-spec : {M : Type 1} → statement M
 deepest-spec =
