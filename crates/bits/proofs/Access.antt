@@ -2,17 +2,19 @@
 use Prim.Native.Nat.{ℕ, _+_, _*_, _≤_, _<_}
 use mathlib.Core.Bool.{Bool, true, false, cond}
 use mathlib.Core.Path.{_≡_, refl, sym, ap, _∙_}
-use mathlib.Core.List.{List, _++_}
+use mathlib.Core.List.{List, [], _++_}
 use native.Mathlib.Decide.{decLt}
+use native.Mathlib.Nat.{add-zero}
 use native.Mathlib.Omega.{arith}
 use lib.Dec.{leb}
-use lib.ListN.{length, take, drop, length-append}
+use lib.ListN.{length, take, drop, length-append, take-append-drop}
 use borrow.Author.Tests.{leb-true, leb-false, le-leb, lt-leb}
-use Rattle.bits.specs.Bits.{numberOf, unpack}
+use Rattle.bits.specs.Bits.{numberOf, bitsOf, unpack}
 use Rattle.bits.specs.Access.{placeAt, fetched, stored, overwritten}
 use Rattle.bits.specs.declared.BitPlace.{BitPlace}
 use Rattle.bits.specs.declared.Fetched.the-variants.{Bits, Short}
 use Rattle.bits.specs.declared.Stored.the-variants.{Next, Full}
+use Rattle.bits.proofs.Bits.{length-bitsOf, length-unpack}
 use Rattle.bits.proofs.Splice.{spliced, length-spliced, spliced-spliced}
 
 -- the answer is not the second one, so the test was true and it is the first
@@ -109,3 +111,20 @@ module _ (b : List Bool) (p : ℕ) (x : List Bool) where
         le-leb (p + length (x ++ y)) (length b) h,
       )
       (spliced-spliced b p x y fits)
+
+-- no bits put anywhere
+pub overwritten-none : (b : List Bool) (p : ℕ) → overwritten b p [] ≡ b
+overwritten-none b p = go (leb (p + 0) (length b)) (take-append-drop p b)
+  where
+    go : (t : Bool) → take p b ++ drop p b ≡ b → cond t (take p b ++ drop (p + 0) b) b ≡ b
+    go true e = rw add-zero e
+    go false e = refl
+
+-- storing k bits of v at p, with room for them: bits with those from p on replaced are what it leaves
+module _ (m : List ℕ) (p k v : ℕ) (fits : p + k ≤ 8 * length m) where
+  pub stored-spliced : {b : List Bool} → b ≡ spliced (unpack m) p (bitsOf k v)
+      → (Next (placeAt (p + k)) ≡ stored m p k) × (b ≡ overwritten (unpack m) p (bitsOf k v))
+  stored-spliced e = (
+    sym (stored-inside m p k fits),
+    e ∙ sym (overwritten-inside (unpack m) p (bitsOf k v) (rw (length-unpack, length-bitsOf) fits)),
+  )

@@ -1,5 +1,6 @@
 pub mod Bits
 pub mod Splice
 pub mod Access
+pub mod Octets
 mod Parts
 mod Window

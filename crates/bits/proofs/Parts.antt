@@ -4,10 +4,11 @@ use Prim.Native.Nat.{ℕ, _+_, _-_, _*_, _^_, _/_, _%_, _≤_, _<_}
 use mathlib.Core.Path.{_≡_, sym, ap, _∙_}
 use mathlib.Core.List.{_++_, append-assoc}
 use native.Mathlib.Omega.{arith}
-use native.Mathlib.Nat.{mod-lt, mul-le-mul-left}
+use native.Mathlib.Nat.{mod-lt}
 use lib.Arith.{digits-lt}
+use lib.Bits.{bitAnd, and-high}
 use lib.ListN.{take, drop}
-use lib.Pow.{pow-add, pow-pos, shr-lt, split}
+use lib.Pow.{pow-add, pow-pos, shr-lt, split, high-ones}
 use lib.Seq.{take-at, drop-at}
 use Rattle.bits.specs.Bits.{numberOf, bitsOf}
 use Rattle.bits.specs.Window.{placed}
@@ -72,12 +73,15 @@ module _ (s k t w : ℕ) (hw : w < 2 ^ (s + k + t)) where
         ∙ spliced-between (bitsOf s top) (bitsOf k middle) (bitsOf t lowest) (bitsOf k v) s (length-bitsOf s top)
         (length-bitsOf k middle ∙ sym (length-bitsOf k v)))
 
--- a number of 40 bits with k replaced, and the upper part on the way to it, stay below 2 ^ 40
-pub placed-fits : (w t k v : ℕ) → v < 2 ^ k → w < 2 ^ 40 → k + t ≤ 40
-    → (w / 2 ^ t / 2 ^ k * 2 ^ k + v < 2 ^ 40) × (placed w t k v < 2 ^ 40)
+-- a number of 40 bits with k replaced stays below 2 ^ 40
+pub placed-fits : (w t k v : ℕ) → v < 2 ^ k → w < 2 ^ 40 → k + t ≤ 40 → placed w t k v < 2 ^ 40
 placed-fits w t k v hv hw h =
     let all : 40 - (k + t) + k + t ≡ 40 = omega arith in
-    let low : placed w t k v < 2 ^ 40 = rw all at (placed-lt (40 - (k + t)) k t w (rw all hw) v hv) in
-    let upper = w / 2 ^ t / 2 ^ k * 2 ^ k + v in
-    let le : upper * 1 ≤ upper * 2 ^ t = mul-le-mul-left upper (pow-pos t) in
-    (omega arith, low)
+    rw all at (placed-lt (40 - (k + t)) k t w (rw all hw) v hv)
+
+-- the k bits cleared by a mask, and v put there
+pub placed-masked : (w t k v : ℕ) → w - bitAnd w ((2 ^ k - 1) * 2 ^ t) + v * 2 ^ t ≡ placed w t k v
+placed-masked w t k v =
+    let upper = ap (λ (y : ℕ). y * 2 ^ t) (split (w / 2 ^ t) k) in
+    let whole = split w t in
+    rw (← high-ones k t, and-high w k t) (omega arith)

@@ -4,16 +4,18 @@
 use Prim.Native.Nat.{ℕ, zero, suc, _+_, _-_, _*_, _^_, _/_, _%_, _≤_, _<_}
 use mathlib.Core.Bool.{Bool}
 use mathlib.Core.Path.{_≡_, refl, sym, ap, ap₂, _∙_}
-use mathlib.Core.List.{List, [], _∷_, _++_}
+use mathlib.Core.List.{List, [], _∷_, _++_, append-nil}
 use native.Mathlib.Omega.{arith}
 use native.Mathlib.Decide.{decLt}
-use native.Mathlib.Nat.{div-add-mod'}
+use native.Mathlib.Nat.{div-add-mod', div-div-eq-div-mul}
 use lib.ListN.{length, getD, take, drop, set, replicate, length-append, length-take, length-set, List·getD-append, List·getD-eq-default}
-use lib.Seq.{sets, sets-eq, set-getD, set-out, take-at, take-set-lt, take-set-le, length-take-le, getD-append-add, drop-append-add}
+use lib.Pow.{pow-add}
+use lib.Seq.{sets, set-getD, set-out, take-at, take-set-lt, take-set-le, length-take-le, getD-append-add, drop-append-add}
 use Rattle.bits.specs.Bits.{numberOf, bitsOf, unpack}
 use Rattle.bits.specs.Window.{windowAt, withWindow, placed}
-use Rattle.bits.proofs.Bits.{length-bitsOf, numberOf-bitsOf, bitsOf-numberOf, numberOf-append, length-unpack, unpack-append, unpack-take}
-use Rattle.bits.proofs.Splice.{spliced, length-spliced, spliced-append, append-spliced, part-append}
+use Rattle.bits.proofs.Bits.{length-bitsOf, numberOf-bitsOf, bitsOf-numberOf, numberOf-append, bitsOf-append, length-unpack, unpack-append, unpack-take}
+use Rattle.bits.proofs.Splice.{spliced, length-spliced, spliced-append, part-append}
+use Rattle.bits.proofs.Octets.{unpack-sets, sets-spliced}
 use Rattle.bits.proofs.Parts.{numberOf-middle, bitsOf-placed, placed-lt}
 
 -- ---- five octets as a number
@@ -132,25 +134,29 @@ module _ (m : List ℕ) (octets : (i : ℕ) → getD m i 0 < 256) (j : ℕ) (ins
   length-before : length before ≡ 8 * j
   length-before = rw (length-unpack, length-take-le j (padded m) (rw length-append (omega arith)))
 
-  -- the bits of the list with a number stored at j
-  put-bits : (w : ℕ) → w < 2 ^ 40 → unpack (withWindow (padded m) j w) ≡ before ++ bitsOf 40 w ++ behind
-  put-bits w h =
-      ap unpack (withWindow-sets (padded m) j w ∙ sets-eq (octetsOf w) (padded m) j (rw length-append (omega arith)))
-      ∙ unpack-append (take j (padded m) ++ octetsOf w) (drop (j + 5) (padded m))
-      ∙ ap (λ b. b ++ behind) (unpack-append (take j (padded m)) (octetsOf w) ∙ ap (before ++_) (unpack-octetsOf w h))
-
   window-lt : windowAt m j < 2 ^ 40
   window-lt = omega (arith, octets j, octets (j + 1), octets (j + 2), octets (j + 3), octets (j + 4))
+
+  window-bits : unpack (octetsOf (windowAt m j)) ≡ bitsOf 40 (windowAt m j)
+  window-bits = unpack-octetsOf (windowAt m j) window-lt
 
   padded-window : windowAt (padded m) j ≡ windowAt m j
   padded-window = simp padded-at
 
-  -- and with what was there
+  padded-back : sets (padded m) j (octetsOf (windowAt m j)) ≡ padded m
+  padded-back =
+      sym (withWindow-sets (padded m) j (windowAt m j))
+      ∙ ap (withWindow (padded m) j) (sym padded-window)
+      ∙ put-back (padded m) (λ i. rw padded-at (octets i)) j
+
+  padded-inside : j + 5 ≤ length (padded m)
+  padded-inside = rw length-append (omega arith)
+
   was-bits : unpack (padded m) ≡ before ++ bitsOf 40 (windowAt m j) ++ behind
   was-bits =
-      sym (ap unpack (put-back (padded m) (λ i. rw padded-at (octets i)) j))
-      ∙ ap (λ w. unpack (withWindow (padded m) j w)) padded-window
-      ∙ put-bits (windowAt m j) window-lt
+      ap unpack (sym padded-back)
+      ∙ unpack-sets (padded m) j (octetsOf (windowAt m j)) padded-inside
+      ∙ ap (λ b. before ++ b ++ behind) window-bits
 
 -- ---- k bits of the window, s after its first and with t behind them
 
@@ -189,15 +195,12 @@ module _ (m : List ℕ) (octets : (i : ℕ) → getD m i 0 < 256) (j s k t : ℕ
 
     put-padded-window : unpack (withWindow (padded m) j new) ≡ spliced (unpack (padded m)) (8 * j + s) (bitsOf k v)
     put-padded-window =
-        let l = length-before m octets j inside in
-        let enough : 8 * j + s + length (bitsOf k v) ≤ length (first ++ bits) =
-        rw (length-append, l, length-bitsOf k v, length-bitsOf 40 (windowAt m j)) (omega arith) in
-        let middle = rw l at (append-spliced first bits s (bitsOf k v)) in
-        put-bits m octets j inside new (rw all at (placed-lt s k t (windowAt m j) within v hv))
-        ∙ ap (λ b. first ++ b ++ rest) (rw all at (bitsOf-placed s k t (windowAt m j) within v hv))
-        ∙ ap (λ b. b ++ rest) (sym middle)
-        ∙ sym (spliced-append (first ++ bits) (8 * j + s) (bitsOf k v) enough rest)
-        ∙ ap (λ b. spliced b (8 * j + s) (bitsOf k v)) (sym (was-bits m octets j inside))
+        ap unpack (withWindow-sets (padded m) j new)
+        ∙ sets-spliced (padded m) j (octetsOf (windowAt m j)) (octetsOf new) s (bitsOf k v) (padded-back m octets j inside) refl
+        (padded-inside m octets j inside) (rw length-bitsOf (omega arith))
+        (unpack-octetsOf new (rw all at (placed-lt s k t (windowAt m j) within v hv))
+        ∙ (rw all at (bitsOf-placed s k t (windowAt m j) within v hv))
+        ∙ ap (λ b. spliced b s (bitsOf k v)) (sym (window-bits m octets j inside)))
 
     put-window : unpack (withWindow m j new) ≡ spliced (unpack m) (8 * j + s) (bitsOf k v)
     put-window =
@@ -225,3 +228,72 @@ module _ (m : List ℕ) (octets : (i : ℕ) → getD m i 0 < 256) (p k : ℕ) (n
   pub put-in-window : (v : ℕ) → v < 2 ^ k
       → unpack (withWindow m (p / 8) (placed (windowAt m (p / 8)) (40 - p % 8 - k) k v)) ≡ spliced (unpack m) p (bitsOf k v)
   put-in-window v hv = rw place at (put-window m octets (p / 8) (p % 8) k (40 - p % 8 - k) (omega arith) (omega arith) v hv)
+
+-- ---- eight bits, s bits into the octet at i
+
+-- they are cut out of it and the one after it
+pub number-in-pair : (m : List ℕ) → ((j : ℕ) → getD m j 0 < 256) → (i s : ℕ) → s < 8 → 8 * i + s + 8 ≤ 8 * length m
+    → numberOf (take 8 (drop (8 * i + s) (unpack m))) ≡ (256 * getD m i 0 + getD m (i + 1) 0) / 2 ^ (8 - s) % 256
+number-in-pair m octets i s h fits =
+    let e : 32 - s ≡ 24 + (8 - s) = omega arith in
+    let pw : 2 ^ (32 - s) ≡ 16777216 * 2 ^ (8 - s) = ap (2 ^_) e ∙ pow-add 2 24 (8 - s) in
+    let c = octets (i + 2) in
+    let d = octets (i + 3) in
+    let f = octets (i + 4) in
+    let top : windowAt m i / 16777216 ≡ 256 * getD m i 0 + getD m (i + 1) 0 = omega arith in
+    number-window m octets i s 8 (32 - s) (omega arith) fits
+    ∙ ap (λ (u : ℕ). windowAt m i / u % 256) pw
+    ∙ ap (λ (u : ℕ). u % 256) (sym (div-div-eq-div-mul (windowAt m i) 16777216 (2 ^ (8 - s))))
+    ∙ ap (λ (u : ℕ). u / 2 ^ (8 - s) % 256) top
+
+-- two octets are the bits of their number
+unpack-pair : (a b : ℕ) → a < 256 → b < 256 → unpack (a ∷ b ∷ []) ≡ bitsOf 16 (a * 256 + b)
+unfolding unpack
+unpack-pair a b ha hb = ap (bitsOf 8 a ++_) (append-nil (bitsOf 8 b)) ∙ sym (bitsOf-append 8 8 a b ha hb)
+
+-- the two octets with the bits of v in their place, stored, replace them and nothing else
+module _ (m : List ℕ) (octets : (j : ℕ) → getD m j 0 < 256) (i s v : ℕ) (h : s < 8) (inside : i + 1 < length m) (hv : v < 256) where
+  abbrev pair : ℕ
+  pair = 256 * getD m i 0 + getD m (i + 1) 0
+
+  abbrev new-pair : ℕ
+  new-pair = placed pair (8 - s) 8 v
+
+  pub put-in-pair : unpack (set (set m i (new-pair / 256 % 256)) (i + 1) (new-pair % 256)) ≡ spliced (unpack m) (8 * i + s) (bitsOf 8 v)
+  put-in-pair =
+      let all : s + 8 + (8 - s) ≡ 16 = omega arith in
+      let o₀ = octets i in
+      let o₁ = octets (i + 1) in
+      let next : i + 1 ≡ suc i = omega arith in
+      let comm : getD m i 0 * 256 + getD m (i + 1) 0 ≡ pair = omega arith in
+      let within : pair < 2 ^ (s + 8 + (8 - s)) = rw all (omega arith) in
+      let lt : new-pair < 2 ^ 16 = rw all at (placed-lt s 8 (8 - s) pair within v hv) in
+      let digits : new-pair / 256 % 256 * 256 + new-pair % 256 ≡ new-pair = omega arith in
+      let was = unpack-pair (getD m i 0) (getD m (i + 1) 0) o₀ o₁ ∙ ap (bitsOf 16) comm in
+      let is = unpack-pair (new-pair / 256 % 256) (new-pair % 256) (omega arith) (omega arith) ∙ ap (bitsOf 16) digits in
+      let back : sets m i (getD m i 0 ∷ getD m (i + 1) 0 ∷ []) ≡ m = rw (← next, set-getD m i 0) (set-getD m (i + 1) 0) in
+      ap (λ (j : ℕ). unpack (set (set m i (new-pair / 256 % 256)) j (new-pair % 256))) next
+      ∙ sets-spliced m i (getD m i 0 ∷ getD m (i + 1) 0 ∷ []) (new-pair / 256 % 256 ∷ new-pair % 256 ∷ []) s (bitsOf 8 v) back refl
+      (omega arith) (rw length-bitsOf (omega arith))
+      (is ∙ (rw all at (bitsOf-placed s 8 (8 - s) pair within v hv)) ∙ ap (λ b. spliced b s (bitsOf 8 v)) (sym was))
+
+-- ---- bits that lie in one octet
+
+-- the octet with the bits of v in their place, stored, replaces them and nothing else
+pub put-in-octet : (m : List ℕ) → ((j : ℕ) → getD m j 0 < 256) → (p k : ℕ) → p % 8 + k ≤ 8 → p + k ≤ 8 * length m → p / 8 < length m → (v : ℕ) → v < 2 ^ k
+    → unpack (set m (p / 8) (placed (getD m (p / 8) 0) (8 - (p % 8 + k)) k v % 256)) ≡ spliced (unpack m) p (bitsOf k v)
+unfolding unpack
+put-in-octet m octets p k narrow fits inside v hv =
+    let i = p / 8 in
+    let s = p % 8 in
+    let t = 8 - (s + k) in
+    let o = getD m i 0 in
+    let all : s + k + t ≡ 8 = omega arith in
+    let place : 8 * i + s ≡ p = omega arith in
+    let within : o < 2 ^ (s + k + t) = rw all (octets i) in
+    let lt : placed o t k v < 256 = rw all at (placed-lt s k t o within v hv) in
+    let same : placed o t k v % 256 ≡ placed o t k v = omega arith in
+    let bits = append-nil (bitsOf 8 (placed o t k v)) ∙ (rw all at (bitsOf-placed s k t o within v hv)) ∙ ap (λ b. spliced b s (bitsOf k v)) (sym (append-nil (bitsOf 8 o))) in
+    rw same
+    (sets-spliced m i (o ∷ []) (placed o t k v ∷ []) s (bitsOf k v) (set-getD m i 0) refl (omega arith) (rw length-bitsOf (omega arith)) bits
+    ∙ ap (λ (q : ℕ). spliced (unpack m) q (bitsOf k v)) place)

@@ -4,7 +4,11 @@ use Prim.Native.Nat.{ℕ, _+_, _*_, _/_, _%_, _^_}
 use mathlib.Core.List.{List}
 use lib.ListN.{getD, set}
 
--- the five octets from i on, the first on top
+-- the four octets from i on, the first on top
+abbrev pub fourAt : List ℕ → ℕ → ℕ
+fourAt m i = getD m i 0 * 16777216 + getD m (i + 1) 0 * 65536 + getD m (i + 2) 0 * 256 + getD m (i + 3) 0
+
+-- the five octets from i on
 abbrev pub windowAt : List ℕ → ℕ → ℕ
 windowAt m i = getD m i 0 * 4294967296 + getD m (i + 1) 0 * 16777216 + getD m (i + 2) 0 * 65536 + getD m (i + 3) 0 * 256 + getD m (i + 4) 0
 

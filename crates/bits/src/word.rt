@@ -3,7 +3,7 @@
 ghost use mathlib.Core.Path.{_≡_};
 ghost use Prim.Native.Nat.{_+_, _*_, _<_, _^_};
 ghost use lib.ListN.{length, getD, set};
-ghost use Rattle.bits.specs.Window.{windowAt, withWindow};
+ghost use Rattle.bits.specs.Window.{fourAt, windowAt, withWindow};
 
 fn wide(x: u8) -> u64
     ensures { λ r. ⌜ r ≡ x ⌝ }
@@ -19,7 +19,7 @@ fn octet(s: &[u8], i: usize) -> u64
 }
 
 // An octet that is there.
-fn octet_inside(s: &[u8], i: usize) -> u64
+pub fn octet_inside(s: &[u8], i: usize) -> u64
     requires { ⌜ i < length (now s) ⌝ }
     ensures { λ r. ⌜ (r ≡ getD (now (s .entry)) i 0) × (r < 256) ⌝ }
 {
@@ -34,17 +34,25 @@ fn joined(a: u64, b: u64, c: u64, d: u64, e: u64) -> u64
     a * 4294967296 + b * 16777216 + c * 65536 + d * 256 + e
 }
 
-// Five octets from i on, all of them there.
-fn window_inside(s: &[u8], i: usize) -> u64
-    requires { ⌜ (i < 65536) × (i + 4 < length (now s)) ⌝ }
-    ensures { λ r. ⌜ (r ≡ windowAt (now (s .entry)) i) × (r < 2 ^ 40) ⌝ }
+// Four octets from i on, all of them there: the compiler makes one load of this sum.
+fn four_inside(s: &[u8], i: usize) -> u64
+    requires { ⌜ (i < 65536) × (i + 3 < length (now s)) ⌝ }
+    ensures { λ r. ⌜ (r ≡ fourAt (now (s .entry)) i) × (r < 2 ^ 32) ⌝ }
 {
     let a = octet_inside(s, i);
     let b = octet_inside(s, i + 1);
     let c = octet_inside(s, i + 2);
     let d = octet_inside(s, i + 3);
-    let e = octet_inside(s, i + 4);
-    joined(a, b, c, d, e)
+    a * 16777216 + b * 65536 + c * 256 + d
+}
+
+// Five octets from i on, all of them there.
+fn window_inside(s: &[u8], i: usize) -> u64
+    requires { ⌜ (i < 65536) × (i + 4 < length (now s)) ⌝ }
+    ensures { λ r. ⌜ (r ≡ windowAt (now (s .entry)) i) × (r < 2 ^ 40) ⌝ }
+{
+    let four = four_inside(s, i);
+    four * 256 + octet_inside(s, i + 4)
 }
 
 // Five octets from i on.

@@ -5,9 +5,9 @@ use mathlib.Core.Path.{_≡_, ap, _∙_}
 use mathlib.Core.List.{List}
 use lib.Dec.{eqb}
 use lib.ListN.{length, getD, length-map, List·getD-map, List·getD-eq-default}
-use Rattle.octets.specs.Numbers.{u16, u16s}
+use Rattle.octets.specs.Numbers.{u16, u16s, there}
 use Rattle.octets.proofs.Numbers.{length-u16s, getD-u16s}
-use Rattle.item.specs.Answers.{there, branchesAt}
+use Rattle.item.specs.Answers.{branchesAt}
 
 module _ (t : List ℕ) (from m : ℕ) where
   pub length-branches : length (branchesAt t from m) ≡ m

@@ -1,11 +1,11 @@
 -- What the functions of this crate answer, from the definitions of Code.antt: for every message, place, value and output.
 use Prim.Native.Nat.{ℕ, _+_, _*_}
-use mathlib.Core.Bool.{Bool, cond, not}
+use mathlib.Core.Bool.{Bool, cond}
 use mathlib.Core.List.{List, map}
-use lib.Dec.{leb, eqb}
+use lib.Dec.{leb}
 use lib.IntN.{ℤ}
 use lib.ListN.{length, drop}
-use Rattle.octets.specs.Numbers.{u16s}
+use Rattle.octets.specs.Numbers.{u16s, there}
 use Rattle.bits.specs.Bits.{unpack}
 use Rattle.bits.specs.Access.{placeAt, overwritten}
 use Rattle.answer.specs.Numbers.{noRoom, wrongValue}
@@ -14,10 +14,6 @@ use Rattle.item.specs.declared.Item.{Item}
 use Rattle.item.specs.declared.Item.the-variants.{Value, Bad}
 use Rattle.item.specs.declared.Put.{Put}
 use Rattle.item.specs.declared.Put.the-variants.{Next, Unfit}
-
--- a reference that is no reserved branch
-unfoldable pub there : ℕ → Bool
-there r = not (eqb r 65535)
 
 -- for each of m branches whose references stand in t from o on, whether it is there
 abbrev pub branchesAt : List ℕ → ℕ → ℕ → List Bool

@@ -16,7 +16,7 @@ use Rattle.answer.specs.Numbers.{messageEnds, aboveSpan, noBranch, badLength, a
 pub data Code : Type 0 where
   number : ℤ → ℕ → Code  -- a number: low, span
   variable : Code  -- a variable number
-  lengthWithin : ℕ → ℕ → Code  -- a length: least, most
+  lengthWithin : ℕ → ℕ → Code  -- a length: least and most, which belong to its row (in document 01's rows the least is 0)
   index : List Bool → Code  -- an index: for each branch, whether it is there (not reserved)
 
 -- ── which values, and their bits ──

@@ -4,6 +4,8 @@ use crate::Begun;
 use crate::Cursor;
 use crate::Step;
 use answer::Refusal;
+use bits::BitPlace;
+use bits::OctetSize;
 use item::Item;
 use table::Row;
 ghost use mathlib.Core.Path.{_≡_};
@@ -76,8 +78,8 @@ fn begin_number(
     requires { ⌜ (at + 12 ≤ length (now table)) × (length (now message) ≤ 65535) ⌝ }
     ensures { λ r. ⌜ Begins (now (table .entry)) at (now (message .entry)) room (one (Code.number (signed (u32 (now (table .entry)) (at + 4))) (u32 (now (table .entry)) (at + 8)))) (stateAt cursor (now (values .entry)) (now (packed .entry))) (now (values .exit)) (now (packed .exit)) r ⌝ }
 {
-    let low = octets::signed_of(octets::u32_at(table, at + 4));
-    let span = octets::u32_at(table, at + 8);
+    let low = Row::low_at(table, at);
+    let span = Row::span_at(table, at);
     let item = item::read::number(message, cursor.place, low, span as u32);
     whole(kept(item, values, packed, room, cursor))
 }
@@ -99,8 +101,8 @@ fn begin_variable(
     whole(kept(item, values, packed, room, cursor))
 }
 
-// So many octets, each a value.
-fn read_octets(
+// So many octets, each a value, one by one.
+fn read_singly(
     count: usize,
     message: &[u8],
     values: &mut [i64],
@@ -125,6 +127,30 @@ fn read_octets(
     Step::Past(here)
 }
 
+// So many octets, each a value: those that are there, with room for their values, at once. What is left is refused at its first.
+fn read_octets(
+    count: usize,
+    message: &[u8],
+    values: &mut [i64],
+    packed: &mut [u8],
+    room: usize,
+    cursor: Cursor,
+) -> Step
+    requires { ⌜ length (now message) ≤ 65535 ⌝ }
+    ensures { λ r. ⌜ Reads (now (message .entry)) room (times count (one (Code.number (pos 0) 255))) (stateAt cursor (now (values .entry)) (now (packed .entry))) (now (values .exit)) (now (packed .exit)) r ⌝ }
+{
+    let free = runs::fitting(room, cursor.count, count);
+    let end = BitPlace::after(OctetSize(message.len()));
+    let there = OctetSize::between(cursor.place, end);
+    let ready = runs::fitting(there.0, 0, free);
+    runs::read(message, cursor.place, ready, values, packed, cursor.count);
+    let next = Cursor {
+        place: BitPlace::further(cursor.place, OctetSize(ready)),
+        count: cursor.count + ready,
+    };
+    read_singly(count - ready, message, values, packed, room, next)
+}
+
 // A row of octets: a length, then each octet.
 fn begin_octets(
     table: &[u8],
@@ -138,7 +164,7 @@ fn begin_octets(
     requires { ⌜ Obeys (now table) × Starts (now table) at × (u16 (now table) (at + 2) ≡ 7) × (length (now message) ≤ 65535) ⌝ }
     ensures { λ r. ⌜ Begins (now (table .entry)) at (now (message .entry)) room (items (now (table .entry)) at) (stateAt cursor (now (values .entry)) (now (packed .entry))) (now (values .exit)) (now (packed .exit)) r ⌝ }
 {
-    let most = octets::u16_at(table, at + 4);
+    let most = Row::count_at(table, at);
     let item = item::read::length(message, cursor.place, 0, most as u32);
     let step = kept(item, values, packed, room, cursor);
     let Step::Past(next) = step else {
@@ -161,8 +187,8 @@ fn begin_counted(
     requires { ⌜ Obeys (now table) × Starts (now table) at × (u16 (now table) (at + 2) ≡ 4) × (length (now message) ≤ 65535) ⌝ }
     ensures { λ r. ⌜ Begins (now (table .entry)) at (now (message .entry)) room (items (now (table .entry)) at) (stateAt cursor (now (values .entry)) (now (packed .entry))) (now (values .exit)) (now (packed .exit)) r ⌝ }
 {
-    let most = octets::u16_at(table, at + 4);
-    let row = octets::u16_at(table, at + 6);
+    let most = Row::count_at(table, at);
+    let row = Row::run_at(table, at);
     let item = item::read::length(message, cursor.place, 0, most as u32);
     let step = kept(item, values, packed, room, cursor);
     let Step::Past(next) = step else {
@@ -184,13 +210,13 @@ fn begin_choice(
     requires { ⌜ Obeys (now table) × Starts (now table) at × (u16 (now table) (at + 2) ≡ 6) × (length (now message) ≤ 65535) ⌝ }
     ensures { λ r. ⌜ Begins (now (table .entry)) at (now (message .entry)) room (items (now (table .entry)) at) (stateAt cursor (now (values .entry)) (now (packed .entry))) (now (values .exit)) (now (packed .exit)) r ⌝ }
 {
-    let branches = octets::u16_at(table, at + 4);
-    let item = item::read::index(message, cursor.place, table, at + 6, branches);
+    let branches = Row::count_at(table, at);
+    let item = item::read::index(message, cursor.place, table, at + Row::HEAD, branches);
     let step = kept(item, values, packed, room, cursor);
     let Step::Past(next) = step else {
         return whole(step);
     };
-    let row = octets::u16_at(table, at + 6 + 2 * count_of(item));
+    let row = Row::branch_at(table, at, count_of(item));
     Begun::Branch(row, next)
 }
 
@@ -234,12 +260,12 @@ fn begin_record(
     requires { ⌜ Obeys (now table) × Starts (now table) at × (u16 (now table) (at + 2) ≡ 5) × (length (now message) ≤ 65535) ⌝ }
     ensures { λ r. ⌜ Begins (now (table .entry)) at (now (message .entry)) room (items (now (table .entry)) at) (stateAt cursor (now (values .entry)) (now (packed .entry))) (now (values .exit)) (now (packed .exit)) r ⌝ }
 {
-    let fields = octets::u16_at(table, at + 4);
+    let fields = Row::count_at(table, at);
     let mut field = 0;
     let mut mask = 0u32;
     let mut here = cursor;
     while field < fields {
-        let flag = octets::u16_at(table, at + 8 + 4 * field);
+        let flag = Row::flag_at(table, at, field);
         let begun = mark(flag, mask, message, values, packed, room, here);
         let Begun::Fields(marked, next) = begun else {
             return begun;
@@ -264,13 +290,13 @@ pub fn begin(
     requires { ⌜ Obeys (now table) × Starts (now table) at × (length (now message) ≤ 65535) ⌝ }
     ensures { λ r. ⌜ Begins (now (table .entry)) at (now (message .entry)) room (items (now (table .entry)) at) (stateAt cursor (now (values .entry)) (now (packed .entry))) (now (values .exit)) (now (packed .exit)) r ⌝ }
 {
-    let kind = octets::u16_at(table, at + 2);
+    let kind = Row::kind_at(table, at);
     match kind {
         Row::NUMBER => begin_number(table, at, message, values, packed, room, cursor),
         Row::VARIABLE => begin_variable(table, at, message, values, packed, room, cursor),
         Row::FIXED_RUN => {
-            let count = octets::u16_at(table, at + 4);
-            let row = octets::u16_at(table, at + 6);
+            let count = Row::count_at(table, at);
+            let row = Row::run_at(table, at);
             Begun::Run(count, row, cursor)
         }
         Row::COUNTED_RUN => begin_counted(table, at, message, values, packed, room, cursor),

@@ -1,4 +1,4 @@
-mod Complement
+pub mod Complement
 mod Fill
 mod LittleEndian
 pub mod Stores

@@ -64,6 +64,12 @@ module _ {A : Type 0} (put : List A → ℕ → ℤ → List A) where
   length-storeAll same [] l i = refl
   length-storeAll same (v ∷ vs) l i = length-storeAll same vs (put l i v) (suc i) ∙ same l i v
 
+  -- where the list has no place for them, nothing is stored
+  pub storeAll-out : (l : List A) (i : ℕ) → ((j : ℕ) (v : ℤ) → i ≤ j → put l j v ≡ l) → (vs : List ℤ) → storeAll put l i vs ≡ l
+  storeAll-out l i out [] = refl
+  storeAll-out l i out (v ∷ vs) =
+      ap (λ m. storeAll put m (suc i) vs) (out i v (omega arith)) ∙ storeAll-out l (suc i) (λ j w h. out j w (omega arith)) vs
+
 module _ {A : Type 0} where
   sets-append : (us vs l : List A) (i : ℕ) → sets l i (us ++ vs) ≡ sets (sets l i us) (i + length us) vs
   sets-append = in-two set sets (λ l i. refl) (λ l i v vs. refl)

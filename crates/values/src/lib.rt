@@ -2,7 +2,7 @@
 // caller that has one of them lends the other empty: so that one engine serves both, and one that keeps nothing.
 ghost use mathlib.Core.Path.{_≡_};
 ghost use mathlib.Core.List.{_++_};
-ghost use Prim.Native.Nat.{_+_, _-_, _/_, _<_, _≤_, min};
+ghost use Prim.Native.Nat.{_+_, _-_, _*_, _/_, _<_, _≤_, min};
 ghost use lib.IntN.{pos};
 ghost use lib.ListN.{length, getD, set, take, drop, replicate};
 ghost use lib.Seq.{sets};
@@ -88,12 +88,20 @@ fn keep_number(values: &mut [i64], at: usize, value: i64)
     }
 }
 
-// Keeps a value at an index of octets that has it: in the eight that are the index's.
+// Stores a value at an index of octets, in the eight that are the index's, all of them there.
+pub fn store_value(octets: &mut [u8], at: usize, value: i64)
+    requires { ⌜ 8 * at + 8 ≤ length (now octets) ⌝ }
+    ensures { λ _. ⌜ now (octets .exit) ≡ setValue (now (octets .entry)) at value ⌝ }
+{
+    store_eight(octets, 8 * at, complement_of(value));
+}
+
+// Keeps a value at an index of octets that has it.
 fn keep_octets(octets: &mut [u8], at: usize, value: i64)
     ensures { λ _. ⌜ now (octets .exit) ≡ setValue (now (octets .entry)) at value ⌝ }
 {
     if at < octets.len() / 8 {
-        store_eight(octets, 8 * at, complement_of(value));
+        store_value(octets, at, value);
     }
 }
 
@@ -112,6 +120,15 @@ pub fn count(values: &[i64], octets: &[u8]) -> usize
     values.len() + octets.len() / 8
 }
 
+// The value at an index of octets.
+pub fn value_in(octets: &[u8], at: usize) -> i64
+    requires { ⌜ at < length (now octets) / 8 ⌝ }
+    ensures { λ r. ⌜ r ≡ getD (valuesIn (now (octets .entry))) at (pos 0) ⌝ }
+{
+    let number = eight_at(octets, 8 * at);
+    value_of(number)
+}
+
 // The value at an index: those of the first slice, then those of the octets.
 pub fn value_at(values: &[i64], octets: &[u8], at: usize) -> i64
     requires { ⌜ at < length (now values) + length (now octets) / 8 ⌝ }
@@ -120,8 +137,7 @@ pub fn value_at(values: &[i64], octets: &[u8], at: usize) -> i64
     if at < values.len() {
         return values[at];
     }
-    let number = eight_at(octets, 8 * (at - values.len()));
-    value_of(number)
+    value_in(octets, at - values.len())
 }
 
 // Zeroes the values from an index up to another.

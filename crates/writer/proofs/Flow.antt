@@ -13,7 +13,7 @@ use borrow.Author.Tests.{leb-true, leb-false, le-leb, lt-leb}
 use Rattle.bits.specs.Bits.{unpack}
 use Rattle.bits.specs.Access.{overwritten}
 use Rattle.bits.proofs.Bits.{length-unpack}
-use Rattle.bits.proofs.Access.{length-overwritten, overwritten-overwritten}
+use Rattle.bits.proofs.Access.{overwritten-none, length-overwritten, overwritten-overwritten}
 use Rattle.answer.specs.declared.Refusal.{Refusal}
 use Rattle.item.specs.Code.{Code, allows, valueBits}
 use Rattle.item.specs.Answers.{putAt, bitsAfter}
@@ -27,14 +27,6 @@ use Rattle.writer.specs.declared.Given.the-variants.{Value, Missing}
 use Rattle.writer.specs.declared.Step.{Step}
 use Rattle.writer.specs.declared.Step.the-variants.{Past, Refused}
 use Rattle.writer.specs.Writes.{cursorAt, refusedAt, Agrees, State, stateAt, spellFrom, Writes, Continues, Gives, missingAt, movedStep}
-
--- no bits put anywhere
-overwritten-none : (b : List Bool) (p : ℕ) → overwritten b p [] ≡ b
-overwritten-none b p = go (leb (p + 0) (length b)) (take-append-drop p b)
-  where
-    go : (t : Bool) → take p b ++ drop p b ≡ b → cond t (take p b ++ drop (p + 0) b) b ≡ b
-    go true e = rw add-zero e
-    go false e = refl
 
 -- bits put at a place leave an output as long as it was
 length-put : (old mid : List ℕ) (place : ℕ) (b : List Bool) → unpack mid ≡ overwritten (unpack old) place b → length mid ≡ length old

@@ -5,6 +5,8 @@ use crate::Cursor;
 use crate::Given;
 use crate::Step;
 use answer::Refusal;
+use bits::BitPlace;
+use bits::OctetSize;
 use item::Put;
 use table::Row;
 ghost use mathlib.Core.Path.{_≡_};
@@ -81,8 +83,8 @@ fn begin_number(
     let Given::Value(value, after) = given else {
         return Begun::Refused(missing(cursor.index));
     };
-    let low = octets::signed_of(octets::u32_at(table, at + 4));
-    let span = octets::u32_at(table, at + 8);
+    let low = Row::low_at(table, at);
+    let span = Row::span_at(table, at);
     let put = item::write::number(output, cursor.place, low, span as u32, value);
     whole(moved(put, cursor.index, after))
 }
@@ -107,8 +109,8 @@ fn begin_variable(
     whole(moved(put, cursor.index, after))
 }
 
-// So many octets, each a value.
-fn write_octets(
+// So many octets, each a value, one by one.
+fn write_singly(
     count: usize,
     values: &[i64],
     packed: &[u8],
@@ -136,6 +138,25 @@ fn write_octets(
     Step::Past(here)
 }
 
+// So many octets, each a value: those that are octets, with room for them, at once. What is left is refused at its first.
+fn write_octets(
+    count: usize,
+    values: &[i64],
+    packed: &[u8],
+    output: &mut [u8],
+    cursor: Cursor,
+) -> Step
+    requires { ⌜ length (now output) ≤ 65535 ⌝ }
+    ensures { λ r. ⌜ Writes (listIn (now (values .entry)) (now (packed .entry))) (times count (one (Code.number (pos 0) 255))) (stateAt cursor (now (output .entry))) (now (output .exit)) r ⌝ }
+{
+    let done = runs::write(values, packed, cursor.index, count, output, cursor.place);
+    let next = Cursor {
+        place: BitPlace::further(cursor.place, OctetSize(done)),
+        index: cursor.index + done,
+    };
+    write_singly(count - done, values, packed, output, next)
+}
+
 // A row of octets: a length, then each octet.
 fn begin_octets(
     table: &[u8],
@@ -152,7 +173,7 @@ fn begin_octets(
     let Given::Value(value, after) = given else {
         return Begun::Refused(missing(cursor.index));
     };
-    let most = octets::u16_at(table, at + 4);
+    let most = Row::count_at(table, at);
     let put = item::write::length(output, cursor.place, 0, most as u32, value);
     let step = moved(put, cursor.index, after);
     let Step::Past(next) = step else {
@@ -178,8 +199,8 @@ fn begin_counted(
     let Given::Value(value, after) = given else {
         return Begun::Refused(missing(cursor.index));
     };
-    let most = octets::u16_at(table, at + 4);
-    let row = octets::u16_at(table, at + 6);
+    let most = Row::count_at(table, at);
+    let row = Row::run_at(table, at);
     let put = item::write::length(output, cursor.place, 0, most as u32, value);
     let step = moved(put, cursor.index, after);
     let Step::Past(next) = step else {
@@ -204,13 +225,13 @@ fn begin_choice(
     let Given::Value(value, after) = given else {
         return Begun::Refused(missing(cursor.index));
     };
-    let branches = octets::u16_at(table, at + 4);
-    let put = item::write::index(output, cursor.place, table, at + 6, branches, value);
+    let branches = Row::count_at(table, at);
+    let put = item::write::index(output, cursor.place, table, at + Row::HEAD, branches, value);
     let step = moved(put, cursor.index, after);
     let Step::Past(next) = step else {
         return whole(step);
     };
-    let row = octets::u16_at(table, at + 6 + 2 * parts::count_of(value));
+    let row = Row::branch_at(table, at, parts::count_of(value));
     Begun::Branch(row, next)
 }
 
@@ -256,12 +277,12 @@ fn begin_record(
     requires { ⌜ Obeys (now table) × Starts (now table) at × (u16 (now table) (at + 2) ≡ 5) × (length (now output) ≤ 65535) ⌝ }
     ensures { λ r. ⌜ Begins (now (table .entry)) at (listIn (now (values .entry)) (now (packed .entry))) (items (now (table .entry)) at) (stateAt cursor (now (output .entry))) (now (output .exit)) r ⌝ }
 {
-    let fields = octets::u16_at(table, at + 4);
+    let fields = Row::count_at(table, at);
     let mut field = 0;
     let mut mask = 0u32;
     let mut here = cursor;
     while field < fields {
-        let flag = octets::u16_at(table, at + 8 + 4 * field);
+        let flag = Row::flag_at(table, at, field);
         let begun = mark(flag, mask, values, packed, output, here);
         let Begun::Fields(marked, next) = begun else {
             return begun;
@@ -285,13 +306,13 @@ pub fn begin(
     requires { ⌜ Obeys (now table) × Starts (now table) at × (length (now output) ≤ 65535) ⌝ }
     ensures { λ r. ⌜ Begins (now (table .entry)) at (listIn (now (values .entry)) (now (packed .entry))) (items (now (table .entry)) at) (stateAt cursor (now (output .entry))) (now (output .exit)) r ⌝ }
 {
-    let kind = octets::u16_at(table, at + 2);
+    let kind = Row::kind_at(table, at);
     match kind {
         Row::NUMBER => begin_number(table, at, values, packed, output, cursor),
         Row::VARIABLE => begin_variable(table, at, values, packed, output, cursor),
         Row::FIXED_RUN => {
-            let count = octets::u16_at(table, at + 4);
-            let row = octets::u16_at(table, at + 6);
+            let count = Row::count_at(table, at);
+            let row = Row::run_at(table, at);
             Begun::Run(count, row, cursor)
         }
         Row::COUNTED_RUN => begin_counted(table, at, values, packed, output, cursor),

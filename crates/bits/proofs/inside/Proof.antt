@@ -1,4 +1,4 @@
--- `bits::inside` meets its contract. Past the end no bits are there; before it, what is left is compared with k.
+-- `bits::inside` meets its contract. Past the end no bits are there; four octets and more before it they are; else what is left is compared with k.
 use borrow.Author.Needs.{needs}
 use borrow.Author.Tests.{leb-true, leb-false, le-leb, lt-leb}
 use native.Mathlib.Omega.{arith}
@@ -19,14 +19,19 @@ leb-left p k n h = go (leb k (n - p)) refl
 
 returns : tie.Need-returns
 returns c =
-    let a = c .before .before .args in
-    sym (lt-leb (a .place .0 + a .k) (8 * a .octets) (omega arith))
+    let a = c .before .before .before .args in
+    sym (le-leb (a .place .0 + a .k) (8 * a .octets) (omega arith))
 
 returns-2 : tie.Need-returns-2
 returns-2 c =
-    let a = c .before .before .args in
+    let a = c .before .before .before .before .before .args in
+    sym (lt-leb (a .place .0 + a .k) (8 * a .octets) (omega arith))
+
+returns-3 : tie.Need-returns-3
+returns-3 c =
+    let a = c .before .before .before .before .before .args in
     let e : c .before .after .result .0 ≡ 8 * a .octets = omega arith in
     rw e (leb-left (a .place .0) (a .k) (8 * a .octets) (omega arith))
 
 pub inside-spec : {M : Type 1} → statement M
-inside-spec = tie.close (tie.spec (λ c κs. search needs) returns returns-2)
+inside-spec = tie.close (tie.spec (λ c κs. search needs) (λ c. search needs) returns (λ c κs. search needs) returns-2 returns-3)

@@ -11,10 +11,10 @@ use lib.ListN.{length, getD}
 use Rattle.octets.specs.Numbers.{u16}
 use Rattle.bits.specs.Bits.{bitsOf}
 use Rattle.table.proofs.Obeyed.{earlier-starts, record-row}
-use Rattle.encoding.specs.Items.{times}
+use Rattle.encoding.specs.Items.{_then_, times}
 use Rattle.encoding.specs.Rows.{items}
 use Rattle.reader.specs.Reads.{stateAt, Continues}
-use Rattle.parts.specs.Parts.{markedFields}
+use Rattle.parts.specs.Parts.{markedFields, fieldIf}
 use Rattle.reader.proofs.Flow.{continues-trans, continues-same, continues-end, continues-part, refused-part, reads-nothing}
 use Rattle.parts.proofs.Runs.{times-none, times-more}
 use Rattle.parts.proofs.Records.{fieldsFrom, fields-start, fields-end, fields-next}
@@ -33,7 +33,8 @@ use Rattle.reader.proofs.+read_field+read_fields+read_row+read_run.Lts-
 use Rattle.reader.proofs.read_run.Reads as read-run
 use Rattle.reader.proofs.read_run.Kinds as read-run-kinds
 use Rattle.reader.proofs.+read_field+read_fields+read_row+read_run.Lts-read_run as read-run-lts
-use Rattle.octets.proofs.u16_at.Reads as u16-at-reads
+use Rattle.table.proofs.row.Row.count_at.Reads as count-at-reads
+use Rattle.table.proofs.row.Row.field_at.Reads as field-at-reads
 use Rattle.reader.proofs.begin.begin.Reads as begin-reads
 use Rattle.parts.proofs.is_marked.Reads as is-marked-reads
 use Rattle.reader.proofs.+read_field+read_fields+read_row+read_run.{statement}
@@ -85,7 +86,7 @@ abbrev read-field-known : ℕ → read-field-lts.Claims
 read-field-known t = (read-row-below t, read-row.Post)
 
 abbrev read-fields-known : ℕ → read-fields-lts.Claims
-read-fields-known t = (u16-at-reads.Asked, u16-at-reads.Learnt, is-marked-reads.Asked, is-marked-reads.Learnt, read-field-below t, read-field.Post)
+read-fields-known t = (count-at-reads.Asked, count-at-reads.Learnt, field-at-reads.Asked, field-at-reads.Learnt, is-marked-reads.Asked, is-marked-reads.Learnt, read-field-below t, read-field.Post)
 
 abbrev read-row-known : ℕ → read-row-lts.Claims
 read-row-known t = (begin-reads.Asked, begin-reads.Learnt, read-run-below t, read-run.Post, read-row-below t, read-row.Post, read-fields-below t, read-fields.Post)
@@ -93,22 +94,20 @@ read-row-known t = (begin-reads.Asked, begin-reads.Learnt, read-run-below t, rea
 abbrev read-run-known : ℕ → read-run-lts.Claims
 read-run-known t = (read-row-below t, read-row.Post)
 
+-- ── one field ──
+
 read-field-read-row-requires : (t : ℕ) → read-field-lts.Need-read-row-requires (read-field-known t) (read-field-at t) read-field.Post
 read-field-read-row-requires t c κs =
     let s = c .before .before .before .before .before .before in
     (omega (arith, s .pre .0, s .pre .1 .2 .1), (s .pre .1 .0, earlier-starts (s .pre .1 .1) (s .pre .1 .2), s .pre .1 .3))
 
-read-field-returns :
-    (t : ℕ) →
-    read-field-lts.Need-returns
-    (read-field-known t) (read-field-at t) read-field.Post
+read-field-returns : (t : ℕ) → read-field-lts.Need-returns (read-field-known t) (read-field-at t) read-field.Post
 read-field-returns t c = rw (c .before .before .before .before .before .before .if1 .taken) (c .before .before .before .read-row .ensures)
 
-read-field-returns-2 :
-    (t : ℕ) →
-    read-field-lts.Need-returns-2
-    (read-field-known t) (read-field-at t) read-field.Post
+read-field-returns-2 : (t : ℕ) → read-field-lts.Need-returns-2 (read-field-known t) (read-field-at t) read-field.Post
 read-field-returns-2 t c = rw (c .if1 .left) reads-nothing
+
+-- ── the fields of a record ──
 
 abbrev read-fields-Inv-loop : read-fields-lts.InvT-loop
 read-fields-Inv-loop table at mask message values₀ packed₀ room fields field₀ here₀ values packed field here =
@@ -118,87 +117,78 @@ read-fields-Inv-loop table at mask message values₀ packed₀ room fields field
 abbrev read-fields-μ-loop : read-fields-lts.MeasureT-loop
 read-fields-μ-loop table at mask message values₀ packed₀ room fields field₀ here₀ values packed field here = fields - field
 
-read-fields-u16-at-requires : (t : ℕ) → read-fields-lts.Need-u16-at-requires (read-fields-known t) (read-fields-at t) read-fields.Post read-fields-Inv-loop read-fields-μ-loop
-read-fields-u16-at-requires t c κs =
+read-fields-count-at-requires : (t : ℕ) → read-fields-lts.Need-count-at-requires (read-fields-known t) (read-fields-at t) read-fields.Post read-fields-Inv-loop read-fields-μ-loop
+read-fields-count-at-requires t c κs =
     let s = c .before .before .before in
-    let row = record-row (s .pre .1 .0) (s .pre .1 .1) (s .pre .1 .2) in omega (arith, row .inside)
+    omega (arith, record-row (s .pre .1 .0) (s .pre .1 .1) (s .pre .1 .2) .inside)
 
 read-fields-loop-holds : (t : ℕ) → read-fields-lts.Need-loop-holds (read-fields-known t) (read-fields-at t) read-fields.Post read-fields-Inv-loop read-fields-μ-loop
 read-fields-loop-holds t c =
-    let s = c .before .before .before .before in
+    let a = c .before .before .before .before .args in
+    (omega arith, refl, refl, continues-same (fields-start (now (a .table)) (a .at) (a .mask)))
+
+-- where the field stands that the loop has come to
+in-row : (t : ℕ) (c : read-fields-lts.In-loop (read-fields-known t) (read-fields-at t) read-fields.Post read-fields-Inv-loop read-fields-μ-loop) → let s = c .before .before .before .before .before .before in
+    (c .before .loop .field < u16 (now (s .args .table)) (s .args .at + 4)) × (s .args .at + 10 + 4 * c .before .loop .field ≤ length (now (s .args .table)))
+in-row t c =
+    let s = c .before .before .before .before .before .before in
     let row = record-row (s .pre .1 .0) (s .pre .1 .1) (s .pre .1 .2) in
-    (omega arith, refl, refl, continues-same (fields-start (now (s .args .table)) (s .args .at) (s .args .mask)))
+    let e = c .before .before .count-at .ensures .0 in
+    (omega (arith, c .loop-test .taken), omega (arith, c .loop-test .taken, row .inside))
 
-read-fields-add-u16-at-2 : (t : ℕ) → read-fields-lts.Need-add-u16-at-2 (read-fields-known t) (read-fields-at t) read-fields.Post read-fields-Inv-loop read-fields-μ-loop
-read-fields-add-u16-at-2 t c =
-    let s = c .before .before .before .before .before .before in
-    let row = record-row (s .pre .1 .0) (s .pre .1 .1) (s .pre .1 .2) in let e = c .before .before .u16-at .ensures .0 in omega (arith, row .inside, row .most, s .pre .1 .0 .most)
-
-read-fields-mul-u16-at : (t : ℕ) → read-fields-lts.Need-mul-u16-at (read-fields-known t) (read-fields-at t) read-fields.Post read-fields-Inv-loop read-fields-μ-loop
-read-fields-mul-u16-at t c =
-    let s = c .before .before .before .before .before .before in
-    let row = record-row (s .pre .1 .0) (s .pre .1 .1) (s .pre .1 .2) in let e = c .before .before .u16-at .ensures .0 in omega (arith, row .inside, row .most, s .pre .1 .0 .most)
-
-read-fields-add-u16-at-3 : (t : ℕ) → read-fields-lts.Need-add-u16-at-3 (read-fields-known t) (read-fields-at t) read-fields.Post read-fields-Inv-loop read-fields-μ-loop
-read-fields-add-u16-at-3 t c =
-    let s = c .before .before .before .before .before .before in
-    let row = record-row (s .pre .1 .0) (s .pre .1 .1) (s .pre .1 .2) in let e = c .before .before .u16-at .ensures .0 in omega (arith, row .inside, row .most, s .pre .1 .0 .most)
-
-read-fields-u16-at-requires-2 : (t : ℕ) → read-fields-lts.Need-u16-at-requires-2 (read-fields-known t) (read-fields-at t) read-fields.Post read-fields-Inv-loop read-fields-μ-loop
-read-fields-u16-at-requires-2 t c κs =
-    let s = c .before .before .before .before .before .before in
-    let row = record-row (s .pre .1 .0) (s .pre .1 .1) (s .pre .1 .2) in let e = c .before .before .u16-at .ensures .0 in omega (arith, row .inside, row .most, s .pre .1 .0 .most)
+read-fields-field-at-requires : (t : ℕ) → read-fields-lts.Need-field-at-requires (read-fields-known t) (read-fields-at t) read-fields.Post read-fields-Inv-loop read-fields-μ-loop
+read-fields-field-at-requires t c κs = in-row t c .1
 
 read-fields-is-marked-requires : (t : ℕ) → read-fields-lts.Need-is-marked-requires (read-fields-known t) (read-fields-at t) read-fields.Post read-fields-Inv-loop read-fields-μ-loop
 read-fields-is-marked-requires t c κs =
     let s = c .before .before .before .before .before .before .before in
     let row = record-row (s .pre .1 .0) (s .pre .1 .1) (s .pre .1 .2) in
-    let e = c .before .before .before .u16-at .ensures .0 in
-    (omega arith, omega (arith, row .most), rw e (s .pre .1 .3))
+    let e = c .before .before .before .count-at .ensures .0 in
+    (omega (arith, c .before .loop-test .taken), omega (arith, row .most), rw e (s .pre .1 .3))
 
 read-fields-read-field-requires : (t : ℕ) → read-fields-lts.Need-read-field-requires (read-fields-known t) (read-fields-at t) read-fields.Post read-fields-Inv-loop read-fields-μ-loop
 read-fields-read-field-requires t c κs =
-    let s = c .before .before .before .before .before .before .before .before .before .before in
-    let row = record-row (s .pre .1 .0) (s .pre .1 .1) (s .pre .1 .2) in
-    let loop = c .before .before .before .before .before .loop in
-    let e = c .before .before .before .before .before .before .u16-at .ensures .0 in
-    (omega (arith, s .pre .0), (s .pre .1 .0, s .pre .1 .1, rw (c .before .before .before .u16-at2 .ensures .0) (row .field (loop .field) (omega arith)), s .pre .1 .4))
+    let test = c .before .before .before .before in
+    let s = test .before .before .before .before .before .before in
+    let row = record-row (s .pre .1 .0) (s .pre .1 .1) (s .pre .1 .2) in (
+      omega (arith, s .pre .0),
+      (s .pre .1 .0, s .pre .1 .1, rw (c .before .before .before .field-at .ensures .0) (row .field (test .before .loop .field) (in-row t test .0)), s .pre .1 .4),
+    )
+
+-- what is left begins with that field
+next-field : (t : ℕ) (c : read-fields-lts.After-is-marked (read-fields-known t) (read-fields-at t) read-fields.Post read-fields-Inv-loop read-fields-μ-loop) → let s = c .before .before .before .before .before .before .before .before in
+    fieldsFrom (now (s .args .table)) (s .args .at) (s .args .mask) (c .before .before .before .loop .field)
+    ≡ fieldIf (c .is-marked .result) (items (now (s .args .table)) (c .before .field-at .result))
+    then fieldsFrom (now (s .args .table)) (s .args .at) (s .args .mask) (c .before .before .before .loop .field + 1)
+next-field t c =
+    let test = c .before .before in
+    let a = test .before .before .before .before .before .before .args in
+    let field = test .before .loop .field in
+    fields-next (now (a .table)) (a .at) (a .mask) field _ _ (in-row t test .0) (c .before .field-at .ensures .0)
+    (c .is-marked .ensures ∙ ap (λ (n : ℕ). getD (bitsOf n (a .mask)) field false) (test .before .before .count-at .ensures .0))
 
 read-fields-returns : (t : ℕ) → read-fields-lts.Need-returns (read-fields-known t) (read-fields-at t) read-fields.Post read-fields-Inv-loop read-fields-μ-loop
 read-fields-returns t c =
-    let s = c .before .before .before .before .before .before .before .before .before .before .before .before .before .before .before .before in
-    let a = s .args in
-    let loop = c .before .before .before .before .before .before .before .before .before .before .before .loop in
-    let field = c .before .before .before .before .before .read-field in
-    let e = c .before .before .before .before .before .before .before .before .before .before .before .before .u16-at .ensures .0 in
-    let l : loop .field < u16 (now (a .table)) (a .at + 4) = omega (arith, e, c .before .before .before .before .before .before .before .before .before .before .loop-test .taken) in
-    let present = c .before .before .before .before .before .before .before .before .is-marked .ensures ∙ ap (λ (n : ℕ). getD (bitsOf n (a .mask)) (loop .field) false) e in
-    let next = fields-next (now (a .table)) (a .at) (a .mask) (loop .field) _ _ l (c .before .before .before .before .before .before .before .before .before .u16-at2 .ensures .0) present in
-    continues-trans (loop .inv .3) (continues-same next) .complete _ _ _ (refused-part _ _ (field .ensures) (c .enum-told .given .1))
+    let marked = c .before .before .before .before .before .before .before .before in
+    continues-trans (marked .before .before .before .loop .inv .3) (continues-same (next-field t marked)) .complete _ _ _ (refused-part _ _ (c .before .before .before .before .before .read-field .ensures) (c .enum-told .given .1))
 
 read-fields-loop-again : (t : ℕ) → read-fields-lts.Need-loop-again (read-fields-known t) (read-fields-at t) read-fields.Post read-fields-Inv-loop read-fields-μ-loop
 read-fields-loop-again t c =
-    let s = c .before .before .before .before .before .before .before .before .before .before .before .before .before .before .before .before .before in
-    let a = s .args in
-    let loop = c .before .before .before .before .before .before .before .before .before .before .before .before .loop in
-    let field = c .before .before .before .before .before .before .read-field in
-    let e = c .before .before .before .before .before .before .before .before .before .before .before .before .before .u16-at .ensures .0 in
-    let l : loop .field < u16 (now (a .table)) (a .at + 4) = omega (arith, e, c .before .before .before .before .before .before .before .before .before .before .before .loop-test .taken) in
-    let present = c .before .before .before .before .before .before .before .before .before .is-marked .ensures ∙ ap (λ (n : ℕ). getD (bitsOf n (a .mask)) (loop .field) false) e in
-    let next = fields-next (now (a .table)) (a .at) (a .mask) (loop .field) _ _ l (c .before .before .before .before .before .before .before .before .before .before .u16-at2 .ensures .0) present in (
-      omega (arith, c .before .before .before .before .before .before .before .before .before .before .before .loop-test .taken),
+    let marked = c .before .before .before .before .before .before .before .before .before in (
+      omega (arith, marked .before .before .loop-test .taken),
       search needs,
       search needs,
-      continues-trans (loop .inv .3) (continues-trans (continues-same next) (continues-part _ _ (field .ensures) (c .before .step .given .1))),
+      continues-trans (marked .before .before .before .loop .inv .3) (continues-trans (continues-same (next-field t marked)) (continues-part _ _ (c .before .before .before .before .before .before .read-field .ensures) (c .before .step .given .1))),
     )
 
 read-fields-returns-2 : (t : ℕ) → read-fields-lts.Need-returns-2 (read-fields-known t) (read-fields-at t) read-fields.Post read-fields-Inv-loop read-fields-μ-loop
 read-fields-returns-2 t c =
-    let s = c .before .before .before .before .before .before in
-    let a = s .args in
+    let a = c .before .before .before .before .before .before .args in
     let loop = c .before .loop in
-    let e : loop .field ≡ u16 (now (a .table)) (a .at + 4) = omega (arith, c .before .before .u16-at .ensures .0) in
+    let e : loop .field ≡ u16 (now (a .table)) (a .at + 4) = omega (arith, c .before .before .count-at .ensures .0) in
     continues-end (continues-trans (loop .inv .3) (continues-same (fields-end (now (a .table)) (a .at) (a .mask) (loop .field) e)))
+
+-- ── a row ──
 
 read-row-begin-requires : (t : ℕ) → read-row-lts.Need-begin-requires (read-row-known t) (read-row-at t) read-row.Post
 read-row-begin-requires t c κs = c .before .before .before .before .before .pre .1
@@ -223,28 +213,28 @@ read-row-read-fields-requires t c κs =
 
 read-row-returns : (t : ℕ) → read-row-lts.Need-returns (read-row-known t) (read-row-at t) read-row.Post
 read-row-returns t c =
-    let s = c .before .before .before .before .before .before .before .before .before .before .before .before in
-    let b = rw (c .before .begun .given .1) at (c .before .before .before .before .before .before .begin .ensures) in continues-end b
+    let b = rw (c .before .begun .given .1) at (c .before .before .before .before .before .before .begin .ensures) in
+    continues-end b
 
 read-row-returns-2 : (t : ℕ) → read-row-lts.Need-returns-2 (read-row-known t) (read-row-at t) read-row.Post
 read-row-returns-2 t c =
-    let s = c .before .before .before .before .before .before .before .before .before .before .before .before .before .before .before .before .before .before in
-    let b = rw (c .before .before .before .before .before .before .before .begun2 .given .1) at (c .before .before .before .before .before .before .before .before .before .before .before .before .begin .ensures) in b .1 .complete _ _ _ (c .before .before .before .read-run .ensures)
+    let b = rw (c .before .before .before .before .before .before .before .begun2 .given .1) at (c .before .before .before .before .before .before .before .before .before .before .before .before .begin .ensures) in
+    b .1 .complete _ _ _ (c .before .before .before .read-run .ensures)
 
 read-row-returns-3 : (t : ℕ) → read-row-lts.Need-returns-3 (read-row-known t) (read-row-at t) read-row.Post
 read-row-returns-3 t c =
-    let s = c .before .before .before .before .before .before .before .before .before .before .before .before .before .before .before .before .before .before in
-    let b = rw (c .before .before .before .before .before .before .before .begun3 .given .1) at (c .before .before .before .before .before .before .before .before .before .before .before .before .begin .ensures) in b .1 .complete _ _ _ (c .before .before .before .read-row .ensures)
+    let b = rw (c .before .before .before .before .before .before .before .begun3 .given .1) at (c .before .before .before .before .before .before .before .before .before .before .before .before .begin .ensures) in
+    b .1 .complete _ _ _ (c .before .before .before .read-row .ensures)
 
 read-row-returns-4 : (t : ℕ) → read-row-lts.Need-returns-4 (read-row-known t) (read-row-at t) read-row.Post
 read-row-returns-4 t c =
-    let s = c .before .before .before .before .before .before .before .before .before .before .before .before .before .before .before .before .before .before in
-    let b = rw (c .before .before .before .before .before .before .before .begun4 .given .1) at (c .before .before .before .before .before .before .before .before .before .before .before .before .begin .ensures) in b .2 .complete _ _ _ (c .before .before .before .read-fields .ensures)
+    let b = rw (c .before .before .before .before .before .before .before .begun4 .given .1) at (c .before .before .before .before .before .before .before .before .before .before .before .before .begin .ensures) in
+    b .2 .complete _ _ _ (c .before .before .before .read-fields .ensures)
 
 read-row-returns-5 : (t : ℕ) → read-row-lts.Need-returns-5 (read-row-known t) (read-row-at t) read-row.Post
-read-row-returns-5 t c =
-    let s = c .before .before .before .before .before .before .before .before .before .before .before .before in
-    let b = rw (c .before .begun5 .given .1) at (c .before .before .before .before .before .before .begin .ensures) in b
+read-row-returns-5 t c = rw (c .before .begun5 .given .1) at (c .before .before .before .before .before .before .begin .ensures)
+
+-- ── a run ──
 
 abbrev read-run-Inv-loop : read-run-lts.InvT-loop
 read-run-Inv-loop table at row count message values₀ packed₀ room done₀ here₀ values packed done here =
@@ -254,12 +244,7 @@ read-run-Inv-loop table at row count message values₀ packed₀ room done₀ he
 abbrev read-run-μ-loop : read-run-lts.MeasureT-loop
 read-run-μ-loop table at row count message values₀ packed₀ room done₀ here₀ values packed done here = count - done
 
-read-run-loop-holds :
-    (t : ℕ) →
-    read-run-lts.Need-loop-holds
-    (read-run-known t) (read-run-at t) read-run.Post
-    read-run-Inv-loop
-    read-run-μ-loop
+read-run-loop-holds : (t : ℕ) → read-run-lts.Need-loop-holds (read-run-known t) (read-run-at t) read-run.Post read-run-Inv-loop read-run-μ-loop
 read-run-loop-holds t c =
     let a = c .before .before .before .args in
     (omega arith, refl, refl, continues-same (ap (λ (n : ℕ). times n (items (now (a .table)) (a .row))) (omega arith)))
@@ -269,44 +254,30 @@ read-run-read-row-requires t c κs =
     let s = c .before .before .before .before .before .before .before in
     (omega (arith, s .pre .0, s .pre .1 .2 .1), (s .pre .1 .0, earlier-starts (s .pre .1 .1) (s .pre .1 .2), s .pre .1 .3))
 
-read-run-returns :
-    (t : ℕ) →
-    read-run-lts.Need-returns
-    (read-run-known t) (read-run-at t) read-run.Post
-    read-run-Inv-loop
-    read-run-μ-loop
-read-run-returns t c =
-    let a = c .before .before .before .before .before .before .before .before .before .before .before .before .before .args in
-    let loop = c .before .before .before .before .before .before .before .before .before .loop in
-    let row = c .before .before .before .before .before .read-row in
-    let more : a .count - loop .done ≡ suc (a .count - (loop .done + 1)) = omega (arith, c .before .before .before .before .before .before .before .before .loop-test .taken) in
-    let next = times-more (a .count - loop .done) (a .count - (loop .done + 1)) (items (now (a .table)) (a .row)) more in
-    continues-trans (loop .inv .3) (continues-same next) .complete _ _ _ (refused-part _ _ (row .ensures) (c .enum-told .given .1))
+-- what is left begins with one row
+next-row : (t : ℕ) (c : read-run-lts.In-loop (read-run-known t) (read-run-at t) read-run.Post read-run-Inv-loop read-run-μ-loop) → let a = c .before .before .before .before .before .args in let done = c .before .loop .done in
+    times (a .count - done) (items (now (a .table)) (a .row)) ≡ items (now (a .table)) (a .row) then times (a .count - (done + 1)) (items (now (a .table)) (a .row))
+next-row t c =
+    let a = c .before .before .before .before .before .args in
+    let done = c .before .loop .done in
+    let more : a .count - done ≡ suc (a .count - (done + 1)) = omega (arith, c .loop-test .taken) in
+    times-more (a .count - done) (a .count - (done + 1)) (items (now (a .table)) (a .row)) more
 
-read-run-loop-again :
-    (t : ℕ) →
-    read-run-lts.Need-loop-again
-    (read-run-known t) (read-run-at t) read-run.Post
-    read-run-Inv-loop
-    read-run-μ-loop
+read-run-returns : (t : ℕ) → read-run-lts.Need-returns (read-run-known t) (read-run-at t) read-run.Post read-run-Inv-loop read-run-μ-loop
+read-run-returns t c =
+    let test = c .before .before .before .before .before .before .before .before in
+    continues-trans (test .before .loop .inv .3) (continues-same (next-row t test)) .complete _ _ _ (refused-part _ _ (c .before .before .before .before .before .read-row .ensures) (c .enum-told .given .1))
+
+read-run-loop-again : (t : ℕ) → read-run-lts.Need-loop-again (read-run-known t) (read-run-at t) read-run.Post read-run-Inv-loop read-run-μ-loop
 read-run-loop-again t c =
-    let a = c .before .before .before .before .before .before .before .before .before .before .before .before .before .before .args in
-    let loop = c .before .before .before .before .before .before .before .before .before .before .loop in
-    let row = c .before .before .before .before .before .before .read-row in
-    let more : a .count - loop .done ≡ suc (a .count - (loop .done + 1)) = omega (arith, c .before .before .before .before .before .before .before .before .before .loop-test .taken) in
-    let next = times-more (a .count - loop .done) (a .count - (loop .done + 1)) (items (now (a .table)) (a .row)) more in (
-      omega (arith, c .before .before .before .before .before .before .before .before .before .loop-test .taken),
+    let test = c .before .before .before .before .before .before .before .before .before in (
+      omega (arith, test .loop-test .taken),
       search needs,
       search needs,
-      continues-trans (loop .inv .3) (continues-trans (continues-same next) (continues-part _ _ (row .ensures) (c .before .step .given .1))),
+      continues-trans (test .before .loop .inv .3) (continues-trans (continues-same (next-row t test)) (continues-part _ _ (c .before .before .before .before .before .before .read-row .ensures) (c .before .step .given .1))),
     )
 
-read-run-returns-2 :
-    (t : ℕ) →
-    read-run-lts.Need-returns-2
-    (read-run-known t) (read-run-at t) read-run.Post
-    read-run-Inv-loop
-    read-run-μ-loop
+read-run-returns-2 : (t : ℕ) → read-run-lts.Need-returns-2 (read-run-known t) (read-run-at t) read-run.Post read-run-Inv-loop read-run-μ-loop
 read-run-returns-2 t c =
     let a = c .before .before .before .before .before .args in
     let loop = c .before .loop in
@@ -323,13 +294,9 @@ pub +read-field+read-fields+read-row+read-run-spec : {M : Type 1} → statement 
     (λ t. read-fields-lts.spec (read-fields-known t) (read-fields-at t) read-fields.Post
     read-fields-Inv-loop
     read-fields-μ-loop
-    (λ c. search needs)
-    (read-fields-u16-at-requires t)
+    (read-fields-count-at-requires t)
     (read-fields-loop-holds t)
-    (read-fields-add-u16-at-2 t)
-    (read-fields-mul-u16-at t)
-    (read-fields-add-u16-at-3 t)
-    (read-fields-u16-at-requires-2 t)
+    (read-fields-field-at-requires t)
     (read-fields-is-marked-requires t)
     (read-fields-read-field-requires t)
     (λ c. search needs)

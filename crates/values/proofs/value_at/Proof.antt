@@ -9,8 +9,7 @@ use lib.ListN.{length, getD, List·getD-append}
 use lib.Seq.{getD-append-add}
 use mir.Syntax.{w64}
 use mir.Facts.{toZ-ofZ}
-use Rattle.values.specs.Values.{uncomplement, valuesIn}
-use Rattle.values.proofs.Stores.{getD-valuesIn}
+use Rattle.values.specs.Values.{valuesIn}
 use borrow.Author.Needs.{needs}
 use Rattle.values.proofs.value_at.Statement.{statement}
 use Rattle.values.proofs.value_at.Tie as tie
@@ -27,28 +26,20 @@ returns c =
     toZ-ofZ {w = w64} (record { sfits = c .result .given })
     ∙ sym (List·getD-append (now (a .values)) (valuesIn (now (a .octets))) (pos 0) (a .at) (c .before .if1 .taken))
 
-sub-eight-at : tie.Need-sub-eight-at
-sub-eight-at c = search needs
+sub-value-in : tie.Need-sub-value-in
+sub-value-in c = search needs
 
-mul-eight-at : tie.Need-mul-eight-at
-mul-eight-at c = search needs
-
-eight-at-requires : tie.Need-eight-at-requires
-eight-at-requires c κs = search needs
-
-value-of-requires : tie.Need-value-of-requires
-value-of-requires c κs = search needs
+value-in-requires : tie.Need-value-in-requires
+value-in-requires c κs = search needs
 
 returns-2 : tie.Need-returns-2
 returns-2 c =
-    let a = c .before .before .before .before .args in
+    let a = c .before .before .before .args in
     let v = now (a .values) in
     let o = now (a .octets) in
     let e : length v + (a .at - length v) ≡ a .at = omega arith in
-    toZ-ofZ {w = w64} (record { sfits = c .value-of .ok })
-    ∙ c .value-of .ensures
-    ∙ ap uncomplement (c .before .eight-at .ensures)
-    ∙ sym (getD-valuesIn o (a .at - length v) (omega arith))
+    toZ-ofZ {w = w64} (record { sfits = c .value-in .ok })
+    ∙ c .value-in .ensures
     ∙ sym (getD-append-add v (valuesIn o) (a .at - length v) (pos 0))
     ∙ ap (λ (k : ℕ). getD (v ++ valuesIn o) k (pos 0)) e
 
@@ -59,8 +50,6 @@ value-at-spec =
     mul-result
     shared-slice-copy-out-result
     returns
-    sub-eight-at
-    mul-eight-at
-    eight-at-requires
-    value-of-requires
+    sub-value-in
+    value-in-requires
     returns-2)

@@ -33,7 +33,8 @@ use Rattle.writer.proofs.+write_field+write_fields+write_row+write_run.
 use Rattle.writer.proofs.write_run.Reads as write-run
 use Rattle.writer.proofs.write_run.Kinds as write-run-kinds
 use Rattle.writer.proofs.+write_field+write_fields+write_row+write_run.Lts-write_run as write-run-lts
-use Rattle.octets.proofs.u16_at.Reads as u16-at-reads
+use Rattle.table.proofs.row.Row.count_at.Reads as count-at-reads
+use Rattle.table.proofs.row.Row.field_at.Reads as field-at-reads
 use Rattle.parts.proofs.is_marked.Reads as is-marked-reads
 use Rattle.writer.proofs.begin.begin.Reads as begin-reads
 use Rattle.writer.proofs.+write_field+write_fields+write_row+write_run.{statement}
@@ -85,7 +86,7 @@ abbrev write-field-known : ℕ → write-field-lts.Claims
 write-field-known t = (write-row-below t, write-row.Post)
 
 abbrev write-fields-known : ℕ → write-fields-lts.Claims
-write-fields-known t = (u16-at-reads.Asked, u16-at-reads.Learnt, is-marked-reads.Asked, is-marked-reads.Learnt, write-field-below t, write-field.Post)
+write-fields-known t = (count-at-reads.Asked, count-at-reads.Learnt, field-at-reads.Asked, field-at-reads.Learnt, is-marked-reads.Asked, is-marked-reads.Learnt, write-field-below t, write-field.Post)
 
 abbrev write-row-known : ℕ → write-row-lts.Claims
 write-row-known t = (begin-reads.Asked, begin-reads.Learnt, write-run-below t, write-run.Post, write-row-below t, write-row.Post, write-fields-below t, write-fields.Post)
@@ -118,8 +119,8 @@ write-fields-Inv-loop table at mask values packed output₀ fields field₀ here
 abbrev write-fields-μ-loop : write-fields-lts.MeasureT-loop
 write-fields-μ-loop table at mask values packed output₀ fields field₀ here₀ output field here = fields - field
 
-write-fields-u16-at-requires : (t : ℕ) → write-fields-lts.Need-u16-at-requires (write-fields-known t) (write-fields-at t) write-fields.Post write-fields-Inv-loop write-fields-μ-loop
-write-fields-u16-at-requires t c κs =
+write-fields-count-at-requires : (t : ℕ) → write-fields-lts.Need-count-at-requires (write-fields-known t) (write-fields-at t) write-fields.Post write-fields-Inv-loop write-fields-μ-loop
+write-fields-count-at-requires t c κs =
     let s = c .before .before .before in
     omega (arith, record-row (s .pre .1 .0) (s .pre .1 .1) (s .pre .1 .2) .inside)
 
@@ -130,31 +131,21 @@ write-fields-loop-holds t c =
 
 -- where the field stands that the loop has come to
 in-row : (t : ℕ) (c : write-fields-lts.In-loop (write-fields-known t) (write-fields-at t) write-fields.Post write-fields-Inv-loop write-fields-μ-loop) → let s = c .before .before .before .before .before .before in
-    (c .before .loop .field < u16 (now (s .args .table)) (s .args .at + 4)) × (s .args .at + 6 + 4 * c .before .loop .field + 1 < length (now (s .args .table)))
-    × (length (now (s .args .table)) ≤ 4096)
+    (c .before .loop .field < u16 (now (s .args .table)) (s .args .at + 4)) × (s .args .at + 10 + 4 * c .before .loop .field ≤ length (now (s .args .table)))
 in-row t c =
     let s = c .before .before .before .before .before .before in
     let row = record-row (s .pre .1 .0) (s .pre .1 .1) (s .pre .1 .2) in
-    let e = c .before .before .u16-at .ensures .0 in
-    (omega (arith, c .loop-test .taken), omega (arith, c .loop-test .taken, row .inside), s .pre .1 .0 .most)
+    let e = c .before .before .count-at .ensures .0 in
+    (omega (arith, c .loop-test .taken), omega (arith, c .loop-test .taken, row .inside))
 
-write-fields-add-u16-at-2 : (t : ℕ) → write-fields-lts.Need-add-u16-at-2 (write-fields-known t) (write-fields-at t) write-fields.Post write-fields-Inv-loop write-fields-μ-loop
-write-fields-add-u16-at-2 t c = let h = in-row t c in omega arith
-
-write-fields-mul-u16-at : (t : ℕ) → write-fields-lts.Need-mul-u16-at (write-fields-known t) (write-fields-at t) write-fields.Post write-fields-Inv-loop write-fields-μ-loop
-write-fields-mul-u16-at t c = let h = in-row t c in omega arith
-
-write-fields-add-u16-at-3 : (t : ℕ) → write-fields-lts.Need-add-u16-at-3 (write-fields-known t) (write-fields-at t) write-fields.Post write-fields-Inv-loop write-fields-μ-loop
-write-fields-add-u16-at-3 t c = let h = in-row t c in omega arith
-
-write-fields-u16-at-requires-2 : (t : ℕ) → write-fields-lts.Need-u16-at-requires-2 (write-fields-known t) (write-fields-at t) write-fields.Post write-fields-Inv-loop write-fields-μ-loop
-write-fields-u16-at-requires-2 t c κs = in-row t c .1
+write-fields-field-at-requires : (t : ℕ) → write-fields-lts.Need-field-at-requires (write-fields-known t) (write-fields-at t) write-fields.Post write-fields-Inv-loop write-fields-μ-loop
+write-fields-field-at-requires t c κs = in-row t c .1
 
 write-fields-is-marked-requires : (t : ℕ) → write-fields-lts.Need-is-marked-requires (write-fields-known t) (write-fields-at t) write-fields.Post write-fields-Inv-loop write-fields-μ-loop
 write-fields-is-marked-requires t c κs =
     let s = c .before .before .before .before .before .before .before in
     let row = record-row (s .pre .1 .0) (s .pre .1 .1) (s .pre .1 .2) in
-    let e = c .before .before .before .u16-at .ensures .0 in
+    let e = c .before .before .before .count-at .ensures .0 in
     (omega (arith, c .before .loop-test .taken), omega (arith, row .most), rw e (s .pre .1 .3))
 
 write-fields-write-field-requires : (t : ℕ) → write-fields-lts.Need-write-field-requires (write-fields-known t) (write-fields-at t) write-fields.Post write-fields-Inv-loop write-fields-μ-loop
@@ -163,20 +154,20 @@ write-fields-write-field-requires t c κs =
     let s = test .before .before .before .before .before .before in
     let row = record-row (s .pre .1 .0) (s .pre .1 .1) (s .pre .1 .2) in (
       omega (arith, s .pre .0),
-      (s .pre .1 .0, s .pre .1 .1, rw (c .before .before .u16-at2 .ensures .0) (row .field (test .before .loop .field) (in-row t test .0)), search needs),
+      (s .pre .1 .0, s .pre .1 .1, rw (c .before .before .field-at .ensures .0) (row .field (test .before .loop .field) (in-row t test .0)), search needs),
     )
 
 -- what is left begins with that field
 next-field : (t : ℕ) (c : write-fields-lts.After-is-marked (write-fields-known t) (write-fields-at t) write-fields.Post write-fields-Inv-loop write-fields-μ-loop) → let s = c .before .before .before .before .before .before .before .before in
     fieldsFrom (now (s .args .table)) (s .args .at) (s .args .mask) (c .before .before .before .loop .field)
-    ≡ fieldIf (c .is-marked .result) (items (now (s .args .table)) (c .before .u16-at2 .result))
+    ≡ fieldIf (c .is-marked .result) (items (now (s .args .table)) (c .before .field-at .result))
     then fieldsFrom (now (s .args .table)) (s .args .at) (s .args .mask) (c .before .before .before .loop .field + 1)
 next-field t c =
     let test = c .before .before in
     let a = test .before .before .before .before .before .before .args in
     let field = test .before .loop .field in
-    fields-next (now (a .table)) (a .at) (a .mask) field _ _ (in-row t test .0) (c .before .u16-at2 .ensures .0)
-    (c .is-marked .ensures ∙ ap (λ (n : ℕ). getD (bitsOf n (a .mask)) field false) (test .before .before .u16-at .ensures .0))
+    fields-next (now (a .table)) (a .at) (a .mask) field _ _ (in-row t test .0) (c .before .field-at .ensures .0)
+    (c .is-marked .ensures ∙ ap (λ (n : ℕ). getD (bitsOf n (a .mask)) field false) (test .before .before .count-at .ensures .0))
 
 write-fields-returns : (t : ℕ) → write-fields-lts.Need-returns (write-fields-known t) (write-fields-at t) write-fields.Post write-fields-Inv-loop write-fields-μ-loop
 write-fields-returns t c =
@@ -195,7 +186,7 @@ write-fields-returns-2 : (t : ℕ) → write-fields-lts.Need-returns-2 (write-fi
 write-fields-returns-2 t c =
     let a = c .before .before .before .before .before .before .args in
     let loop = c .before .loop in
-    let e : loop .field ≡ u16 (now (a .table)) (a .at + 4) = omega (arith, c .before .before .u16-at .ensures .0) in
+    let e : loop .field ≡ u16 (now (a .table)) (a .at + 4) = omega (arith, c .before .before .count-at .ensures .0) in
     continues-end (continues-trans (loop .inv .2) (continues-same (fields-end (now (a .table)) (a .at) (a .mask) (loop .field) e)))
 
 -- ── a row ──
@@ -302,13 +293,9 @@ pub +write-field+write-fields+write-row+write-run-spec : {M : Type 1} → statem
     (λ t. write-fields-lts.spec (write-fields-known t) (write-fields-at t) write-fields.Post
     write-fields-Inv-loop
     write-fields-μ-loop
-    (λ c. search needs)
-    (write-fields-u16-at-requires t)
+    (write-fields-count-at-requires t)
     (write-fields-loop-holds t)
-    (write-fields-add-u16-at-2 t)
-    (write-fields-mul-u16-at t)
-    (write-fields-add-u16-at-3 t)
-    (write-fields-u16-at-requires-2 t)
+    (write-fields-field-at-requires t)
     (write-fields-is-marked-requires t)
     (write-fields-write-field-requires t)
     (λ c. search needs)

@@ -10,7 +10,7 @@ use lib.ListN.{length, set}
 use Rattle.bits.specs.Bits.{width, bitsOf, unpack}
 use Rattle.bits.proofs.Access.{overwritten-past-end}
 use Rattle.bits.proofs.Bits.{length-bitsOf, length-unpack}
-use Rattle.item.proofs.WholeOctet.{set-octet}
+use Rattle.bits.proofs.Octets.{set-octet}
 use Rattle.item.proofs.Written.{measured-number, outside-refused, inside-span, inside-written}
 use Rattle.item.proofs.write.octet.Statement.{statement}
 use Rattle.item.proofs.write.octet.Tie as tie

@@ -1,123 +1,73 @@
 -- `reader::begin::begin_counted` meets its contract. A length, read and kept, leaves that many items of the row referred to.
 -- Assumes nothing.
-use Prim.Native.Nat.{ℕ, _+_}
-use mathlib.Core.Path.{ap, _∙_}
+use Prim.Native.Nat.{_+_}
+use mathlib.Core.Path.{_≡_, ap}
 use native.Mathlib.Omega.{arith}
+use borrow.Author.Needs.{needs}
 use denote.Ref.{now}
 use Rattle.octets.specs.Numbers.{u16}
 use Rattle.item.specs.Code.{lengthWithin, natural}
-use Rattle.item.specs.Answers.{itemAt}
-use Rattle.encoding.specs.Items.{times}
-use Rattle.encoding.specs.Rows.{items}
-use Rattle.reader.specs.Reads.{stateAt}
 use Rattle.table.proofs.Obeyed.{counted-row}
+use Rattle.encoding.specs.Items.{ask, times}
+use Rattle.encoding.specs.Rows.{items}
 use Rattle.encoding.proofs.RowItems.{items-counted}
-use Rattle.reader.proofs.Beginnings.{begins-refused, continues-first}
-use borrow.Author.Needs.{needs}
+use Rattle.reader.specs.Reads.{stateAt}
+use Rattle.reader.proofs.Beginnings.{Keeping, keeping, first-refused, first-kept}
 use Rattle.reader.proofs.begin.begin_counted.Statement.{statement}
 use Rattle.reader.proofs.begin.begin_counted.Tie as tie
 
-add-u16-at : tie.Need-add-u16-at
-add-u16-at c = search needs
+-- what the row asks for
+row-items : (s : tie.Start) → let t = now (s .args .table) in let at = s .args .at in
+    items t at ≡ ask (lengthWithin 0 (u16 t (at + 4))) (λ v. times (natural v) (items t (u16 t (at + 6))))
+row-items s =
+    let row = counted-row (s .pre .0) (s .pre .1) (s .pre .2) in
+    items-counted (now (s .args .table)) (s .args .at) (u16 (now (s .args .table)) (s .args .at + 4)) (u16 (now (s .args .table)) (s .args .at + 6)) (row .0) (row .2 .1)
 
-u16-at-requires : tie.Need-u16-at-requires
-u16-at-requires c κs =
+count-at-requires : tie.Need-count-at-requires
+count-at-requires c κs =
     let s = c .before .before .before in
     omega (arith, counted-row (s .pre .0) (s .pre .1) (s .pre .2) .1)
 
-add-u16-at-2 : tie.Need-add-u16-at-2
-add-u16-at-2 c = search needs
-
-u16-at-requires-2 : tie.Need-u16-at-requires-2
-u16-at-requires-2 c κs =
+run-at-requires : tie.Need-run-at-requires
+run-at-requires c κs =
     let s = c .before .before .before .before in
-    omega (arith, counted-row (s .pre .0) (s .pre .1) (s .pre .2) .1)
+    counted-row (s .pre .0) (s .pre .1) (s .pre .2) .1
 
-cast-length : tie.Need-cast-length
-cast-length c = search needs
-
-length-requires : tie.Need-length-requires
-length-requires c κs = search needs
-
-kept-requires : tie.Need-kept-requires
-kept-requires c κs = search needs
-
-enum-known-step : tie.Need-enum-known-step
-enum-known-step c = search needs
-
-enum-told : tie.Need-enum-told
-enum-told c = search needs
-
-whole-requires : tie.Need-whole-requires
-whole-requires c κs = search needs
-
-same-length : tie.Need-same-length
-same-length c = search needs
-
-same-length-2 : tie.Need-same-length-2
-same-length-2 c = search needs
+-- the length, kept
+length-kept : (c : tie.After-kept) → let a = c .before .before .before .before .before .before .before .before .before .args in
+    Keeping (lengthWithin 0 (u16 (now (a .table)) (a .at + 4))) (now (a .message)) (a .room) (stateAt (a .cursor) (now (a .values)) (now (a .packed)))
+    (c .kept .last .1 .0) (c .kept .last .1 .1 .0) (c .before .before .before .length .result) (c .kept .result)
+length-kept c = keeping _ (ap (lengthWithin 0) (c .before .before .before .before .before .count-at .ensures .0)) (c .before .before .before .length .ensures) (c .kept .ensures)
 
 returns : tie.Need-returns
 returns c =
-    let s = c .before .before .before .before .before .before .before .before .before .before .before .before .before .before .before in
-    let a = s .args in
-    let row = counted-row (s .pre .0) (s .pre .1) (s .pre .2) in
-    let kept = c .before .before .before .before .before .before .kept in
-    let item = c .before .before .before .before .before .before .before .before .before .length in
-    let most = c .before .before .before .before .before .before .before .before .before .before .before .u16-at in
-    let m = now (a .message) in
-    let r = u16 (now (a .table)) (a .at + 6) in
-    let ei = item .ensures ∙ ap (λ (n : ℕ). itemAt (lengthWithin 0 n) m (a .cursor .place .0)) (most .ensures .0) in
-    rw (c .whole .ensures)
-    (begins-refused (now (a .table)) (a .at) m (a .room) (items (now (a .table)) (a .at)) (stateAt (a .cursor) (now (a .values)) (now (a .packed))) _ _
-    (lengthWithin 0 (u16 (now (a .table)) (a .at + 4))) (λ v. times (natural v) (items (now (a .table)) r)) (item .result) (kept .result) _
-    (items-counted (now (a .table)) (a .at) _ r (row .0) (row .2 .1)) ei (kept .ensures .0) (c .before .enum-told .given .1))
-
-count-of-requires : tie.Need-count-of-requires
-count-of-requires c κs = search needs
-
-same-length-3 : tie.Need-same-length-3
-same-length-3 c = search needs
-
-same-length-4 : tie.Need-same-length-4
-same-length-4 c = search needs
+    let kept = c .before .before .before .before .before .before in
+    let told = c .before .enum-told .given .1 in
+    rw (c .whole .ensures, told) (first-refused _ _ (row-items (kept .before .before .before .before .before .before .before .before .before)) (length-kept kept) told)
 
 returns-2 : tie.Need-returns-2
 returns-2 c =
-    let s = c .before .before .before .before .before .before .before .before .before .before .before .before .before .before .before .before in
-    let a = s .args in
-    let row = counted-row (s .pre .0) (s .pre .1) (s .pre .2) in
-    let kept = c .before .before .before .before .before .before .before .kept in
-    let item = c .before .before .before .before .before .before .before .before .before .before .length in
-    let most = c .before .before .before .before .before .before .before .before .before .before .before .before .u16-at in
-    let m = now (a .message) in
-    let r = u16 (now (a .table)) (a .at + 6) in
-    let ei = item .ensures ∙ ap (λ (n : ℕ). itemAt (lengthWithin 0 n) m (a .cursor .place .0)) (most .ensures .0) in
-    rw (c .count-of .ensures, c .before .before .before .before .before .before .before .before .before .before .before .u16-at2 .ensures .0) (
-      row .2,
-      continues-first m (a .room) (items (now (a .table)) (a .at)) (stateAt (a .cursor) (now (a .values)) (now (a .packed))) _ _
-          (lengthWithin 0 (u16 (now (a .table)) (a .at + 4))) (λ v. times (natural v) (items (now (a .table)) r)) (item .result) (kept .result) _
-          (items-counted (now (a .table)) (a .at) _ r (row .0) (row .2 .1)) ei (kept .ensures .0) (c .before .before .step .given .1) (kept .ensures .1) (kept .ensures .2),
-    )
+    let kept = c .before .before .before .before .before .before .before in
+    let s = kept .before .before .before .before .before .before .before .before .before in
+    rw (c .count-of .ensures, kept .before .before .before .before .run-at .ensures .0)
+    (counted-row (s .pre .0) (s .pre .1) (s .pre .2) .2, first-kept _ _ (row-items s) (length-kept kept) (c .before .before .step .given .1))
 
 pub begin-counted-spec : {M : Type 1} → statement M
 begin-counted-spec =
     tie.close
     (tie.spec
-    add-u16-at
-    u16-at-requires
-    add-u16-at-2
-    u16-at-requires-2
-    cast-length
-    length-requires
-    kept-requires
-    enum-known-step
-    enum-told
-    whole-requires
-    same-length
-    same-length-2
+    count-at-requires
+    run-at-requires
+    (λ c. search needs)
+    (λ c κs. search needs)
+    (λ c κs. search needs)
+    (λ c. search needs)
+    (λ c. search needs)
+    (λ c κs. search needs)
+    (λ c. search needs)
+    (λ c. search needs)
     returns
-    count-of-requires
-    same-length-3
-    same-length-4
+    (λ c κs. search needs)
+    (λ c. search needs)
+    (λ c. search needs)
     returns-2)

@@ -1,18 +1,19 @@
--- `reader::begin::begin_record` meets its contract. Invariant: reading the record comes to reading the presence bits that are left, with the marks so far.
+-- `reader::begin::begin_record` meets its contract. Invariant: reading the record comes to reading the presence bits that are
+-- left, with the marks so far.
 -- Assumes nothing.
-use Prim.Native.Nat.{ℕ, _+_, _-_, _^_, _≤_, _<_}
+use Prim.Native.Nat.{ℕ, _+_, _-_, _*_, _^_, _≤_, _<_}
 use mathlib.Core.Path.{_≡_, refl, subst}
 use native.Mathlib.Omega.{arith}
+use borrow.Author.Needs.{needs}
 use denote.Ref.{now}
 use lib.ListN.{length}
 use Rattle.octets.specs.Numbers.{u16}
+use Rattle.table.proofs.Obeyed.{RecordRow, record-row}
 use Rattle.encoding.specs.Rows.{items}
-use Rattle.reader.specs.Reads.{stateAt, Continues}
-use Rattle.table.proofs.Obeyed.{record-row}
-use Rattle.reader.proofs.Flow.{continues-trans, continues-same}
 use Rattle.parts.proofs.Records.{leftAfter, record-start, record-end, mask-lt, marked-lt}
+use Rattle.reader.specs.Reads.{stateAt, Continues}
+use Rattle.reader.proofs.Flow.{continues-trans, continues-same}
 use Rattle.reader.proofs.Records.{marked-on, no-mark}
-use borrow.Author.Needs.{needs}
 use Rattle.reader.proofs.begin.begin_record.Statement.{statement}
 use Rattle.reader.proofs.begin.begin_record.Tie as tie
 
@@ -24,103 +25,63 @@ Inv-loop table at message values₀ packed₀ room fields field₀ mask₀ here�
 abbrev μ-loop : tie.MeasureT-loop
 μ-loop table at message values₀ packed₀ room fields field₀ mask₀ here₀ values packed field mask here = fields - field
 
-add-u16-at : tie.Need-add-u16-at Inv-loop μ-loop
-add-u16-at c = search needs
+-- the row, and where its flag stands that the loop has come to
+row-at : (s : tie.Start Inv-loop μ-loop) → RecordRow (s .pre .0) (s .pre .1)
+row-at s = record-row (s .pre .0) (s .pre .1) (s .pre .2)
 
-u16-at-requires : tie.Need-u16-at-requires Inv-loop μ-loop
-u16-at-requires c κs =
-    let s = c .before .before .before in
-    let row = record-row (s .pre .0) (s .pre .1) (s .pre .2) in omega (arith, row .inside)
+in-row : (c : tie.In-loop Inv-loop μ-loop) → let s = c .before .before .before .before .before .before in
+    (c .before .loop .field < u16 (now (s .args .table)) (s .args .at + 4)) × (s .args .at + 10 + 4 * c .before .loop .field ≤ length (now (s .args .table)))
+in-row c =
+    let e = c .before .before .count-at .ensures .0 in
+    (omega (arith, c .loop-test .taken), omega (arith, c .loop-test .taken, row-at (c .before .before .before .before .before .before) .inside))
+
+count-at-requires : tie.Need-count-at-requires Inv-loop μ-loop
+count-at-requires c κs = omega (arith, row-at (c .before .before .before) .inside)
 
 loop-holds : tie.Need-loop-holds Inv-loop μ-loop
 loop-holds c =
     let s = c .before .before .before .before in
-    let row = record-row (s .pre .0) (s .pre .1) (s .pre .2) in
     (omega arith, refl, refl, omega arith, continues-same (record-start (s .pre .0) (s .pre .1) (s .pre .2)))
 
-add-u16-at-2 : tie.Need-add-u16-at-2 Inv-loop μ-loop
-add-u16-at-2 c =
-    let s = c .before .before .before .before .before .before in
-    let row = record-row (s .pre .0) (s .pre .1) (s .pre .2) in let e = c .before .before .u16-at .ensures .0 in omega (arith, row .inside)
-
-mul-u16-at : tie.Need-mul-u16-at Inv-loop μ-loop
-mul-u16-at c =
-    let s = c .before .before .before .before .before .before in
-    let row = record-row (s .pre .0) (s .pre .1) (s .pre .2) in let e = c .before .before .u16-at .ensures .0 in omega (arith, row .most)
-
-add-u16-at-3 : tie.Need-add-u16-at-3 Inv-loop μ-loop
-add-u16-at-3 c =
-    let s = c .before .before .before .before .before .before in
-    let row = record-row (s .pre .0) (s .pre .1) (s .pre .2) in let e = c .before .before .u16-at .ensures .0 in omega (arith, row .inside, s .pre .0 .most)
-
-u16-at-requires-2 : tie.Need-u16-at-requires-2 Inv-loop μ-loop
-u16-at-requires-2 c κs =
-    let s = c .before .before .before .before .before .before in
-    let row = record-row (s .pre .0) (s .pre .1) (s .pre .2) in let e = c .before .before .u16-at .ensures .0 in omega (arith, row .inside)
+flag-at-requires : tie.Need-flag-at-requires Inv-loop μ-loop
+flag-at-requires c κs = in-row c .1
 
 mark-requires : tie.Need-mark-requires Inv-loop μ-loop
 mark-requires c κs =
-    let s = c .before .before .before .before .before .before .before .before .before in
-    let row = record-row (s .pre .0) (s .pre .1) (s .pre .2) in
-    let loop = c .before .before .before .before .loop in
-    let e = c .before .before .before .before .before .u16-at .ensures .0 in
-    (mask-lt (loop .field) (loop .mask) (loop .inv .3) (omega (arith, row .most)), omega arith)
-
-enum-known-begun : tie.Need-enum-known-begun Inv-loop μ-loop
-enum-known-begun c = search needs
-
-same-length : tie.Need-same-length Inv-loop μ-loop
-same-length c = search needs
-
-same-length-2 : tie.Need-same-length-2 Inv-loop μ-loop
-same-length-2 c = search needs
+    let test = c .before .before .before in
+    let loop = test .before .loop in
+    (mask-lt (loop .field) (loop .mask) (loop .inv .3) (omega (arith, in-row test .0, row-at (test .before .before .before .before .before .before) .most)), search needs)
 
 returns : tie.Need-returns Inv-loop μ-loop
 returns c =
-    let s = c .before .before .before .before .before .before .before .before .before .before .before .before .before .before in
-    let row = record-row (s .pre .0) (s .pre .1) (s .pre .2) in
-    let a = s .args in
-    let loop = c .before .before .before .before .before .before .before .before .before .loop in
     let mark = c .before .before .before .before .mark in
-    let e = c .before .before .before .before .before .before .before .before .before .before .u16-at .ensures .0 in
-    no-mark (now (a .table)) (a .at) (loop .field) _ (loop .mask) (mark .result) _ _ (c .match .keys2) (omega arith) (loop .inv .3) (c .before .before .before .before .before .before .before .u16-at2 .ensures .0) (loop .inv .4) (mark .ensures)
-
-add-field : tie.Need-add-field Inv-loop μ-loop
-add-field c = search needs
-
-loop-less : tie.Need-loop-less Inv-loop μ-loop
-loop-less c = search needs
+    let flag = c .before .before .before .before .before .before .before in
+    let test = flag .before in
+    let loop = test .before .loop in
+    let a = test .before .before .before .before .before .before .args in
+    no-mark (now (a .table)) (a .at) (loop .field) _ (loop .mask) (in-row test .0) (loop .inv .3) (flag .flag-at .ensures .0) (loop .inv .4)
+    (mark .result) _ _ (c .match .keys2) (mark .ensures)
 
 loop-again : tie.Need-loop-again Inv-loop μ-loop
 loop-again c =
-    let s = c .before .before .before .before .before .before .before .before .before .before .before .before .before .before .before .before in
-    let row = record-row (s .pre .0) (s .pre .1) (s .pre .2) in
-    let a = s .args in
-    let loop = c .before .before .before .before .before .before .before .before .before .before .before .loop in
     let mark = c .before .before .before .before .before .before .mark in
-    let e = c .before .before .before .before .before .before .before .before .before .before .before .before .u16-at .ensures .0 in
-    let m = rw (c .before .begun .given .1) at (mark .ensures) in
-    let l : loop .field < u16 (now (a .table)) (a .at + 4) = omega (arith, e, c .before .before .before .before .before .before .before .before .before .before .loop-test .taken) in (
-      omega (arith, c .before .before .before .before .before .before .before .before .before .before .loop-test .taken),
+    let flag = c .before .before .before .before .before .before .before .before .before in
+    let test = flag .before in
+    let loop = test .before .loop in
+    let a = test .before .before .before .before .before .before .args in
+    let m = rw (c .before .begun .given .1) at (mark .ensures) in (
+      omega (arith, test .loop-test .taken),
       search needs,
       search needs,
       marked-lt (loop .field) (loop .mask) _ (loop .inv .3) (m .0),
-      marked-on (now (a .table)) (a .at) (loop .field) _ (loop .mask) _ _ _ _ l (loop .inv .3) (c .before .before .before .before .before .before .before .before .before .u16-at2 .ensures .0) (loop .inv .4) m,
+      marked-on (now (a .table)) (a .at) (loop .field) _ (loop .mask) (in-row test .0) (loop .inv .3) (flag .flag-at .ensures .0) (loop .inv .4) _ _ _ _ m,
     )
-
-same-length-3 : tie.Need-same-length-3 Inv-loop μ-loop
-same-length-3 c = search needs
-
-same-length-4 : tie.Need-same-length-4 Inv-loop μ-loop
-same-length-4 c = search needs
 
 returns-2 : tie.Need-returns-2 Inv-loop μ-loop
 returns-2 c =
     let s = c .before .before .before .before .before .before in
-    let row = record-row (s .pre .0) (s .pre .1) (s .pre .2) in
-    let a = s .args in
     let loop = c .before .loop in
-    let e : loop .field ≡ u16 (now (a .table)) (a .at + 4) = omega (arith, c .before .before .u16-at .ensures .0) in (
+    let e : loop .field ≡ u16 (now (s .args .table)) (s .args .at + 4) = omega (arith, c .before .before .count-at .ensures .0) in (
       s .pre .2,
       subst (λ (n : ℕ). loop .mask < 2 ^ n) e (loop .inv .3),
       continues-trans (loop .inv .4) (continues-same (record-end (s .pre .0) (s .pre .1) (s .pre .2) (loop .field) (loop .mask) e)),
@@ -132,21 +93,17 @@ begin-record-spec =
     (tie.spec
     Inv-loop
     μ-loop
-    add-u16-at
-    u16-at-requires
+    count-at-requires
     loop-holds
-    add-u16-at-2
-    mul-u16-at
-    add-u16-at-3
-    u16-at-requires-2
+    flag-at-requires
     mark-requires
-    enum-known-begun
-    same-length
-    same-length-2
+    (λ c. search needs)
+    (λ c. search needs)
+    (λ c. search needs)
     returns
-    add-field
-    loop-less
+    (λ c. search needs)
+    (λ c. search needs)
     loop-again
-    same-length-3
-    same-length-4
+    (λ c. search needs)
+    (λ c. search needs)
     returns-2)

@@ -7,29 +7,11 @@ use borrow.Author.Needs.{needs}
 use Rattle.reader.proofs.begin.kept.Statement.{statement}
 use Rattle.reader.proofs.begin.kept.Tie as tie
 
-enum-known-item : tie.Need-enum-known-item
-enum-known-item c = search needs
-
-enum-known-item-2 : tie.Need-enum-known-item-2
-enum-known-item-2 c = search needs
-
 returns : tie.Need-returns
 returns c = rw (c .before .before .item2 .given .1, le-leb _ _ (c .if1 .taken)) (refl, refl, refl)
 
-keep-requires : tie.Need-keep-requires
-keep-requires c κs = search needs
-
-add-t20 : tie.Need-add-t20
-add-t20 c = search needs
-
 returns-2 : tie.Need-returns-2
 returns-2 c = rw (c .before .item .given .1) (refl, refl, refl)
-
-same-length : tie.Need-same-length
-same-length c = search needs
-
-same-length-2 : tie.Need-same-length-2
-same-length-2 c = search needs
 
 returns-3 : tie.Need-returns-3
 returns-3 c =
@@ -43,12 +25,12 @@ pub kept-spec : {M : Type 1} → statement M
 kept-spec =
     tie.close
     (tie.spec
-    enum-known-item
-    enum-known-item-2
+    (λ c. search needs)
+    (λ c. search needs)
     returns
-    keep-requires
-    add-t20
+    (λ c κs. search needs)
+    (λ c. search needs)
     returns-2
-    same-length
-    same-length-2
+    (λ c. search needs)
+    (λ c. search needs)
     returns-3)

@@ -12,27 +12,27 @@ use Rattle.writer.proofs.Flow.{continues-same}
 use Rattle.writer.proofs.begin.begin.Statement.{statement}
 use Rattle.writer.proofs.begin.begin.Tie as tie
 
-u16-at-requires : tie.Need-u16-at-requires
-u16-at-requires c κs =
+kind-at-requires : tie.Need-kind-at-requires
+kind-at-requires c κs =
     let s = c .before .before .before in
     omega (arith, row-starts-inside (s .pre .0) (s .pre .1) .0)
 
 begin-number-requires : tie.Need-begin-number-requires
 begin-number-requires c κs =
     let s = c .before .before .before .before .before .before in
-    let k = sym (c .before .before .u16-at .ensures .0) ∙ c .before .match .keys1 in
+    let k = sym (c .before .before .kind-at .ensures .0) ∙ c .before .match .keys1 in
     (number-row (s .pre .0) (s .pre .1) k .1, s .pre .2)
 
-u16-at-requires-2 : tie.Need-u16-at-requires-2
-u16-at-requires-2 c κs =
+count-at-requires : tie.Need-count-at-requires
+count-at-requires c κs =
     let s = c .before .before .before .before .before in
-    let k = sym (c .before .u16-at .ensures .0) ∙ c .match .keys3 in
+    let k = sym (c .before .kind-at .ensures .0) ∙ c .match .keys3 in
     omega (arith, fixed-row (s .pre .0) (s .pre .1) k .1)
 
-u16-at-requires-3 : tie.Need-u16-at-requires-3
-u16-at-requires-3 c κs =
+run-at-requires : tie.Need-run-at-requires
+run-at-requires c κs =
     let s = c .before .before .before .before .before .before in
-    let k = sym (c .before .before .u16-at .ensures .0) ∙ c .before .match .keys3 in
+    let k = sym (c .before .before .kind-at .ensures .0) ∙ c .before .match .keys3 in
     omega (arith, fixed-row (s .pre .0) (s .pre .1) k .1)
 
 begin-octets-requires : tie.Need-begin-octets-requires
@@ -40,7 +40,7 @@ begin-octets-requires c κs =
     let s = c .before .before .before .before .before .before in
     let t = now (s .args .table) in
     let kind = s .args .at + 2 in
-    let k = c .before .before .u16-at .ensures .0 in
+    let k = c .before .before .kind-at .ensures .0 in
     let r = c .before .match .rest in (
       s .pre .0,
       s .pre .1,
@@ -58,36 +58,33 @@ returns : tie.Need-returns
 returns c =
     let s = c .before .before .before .before .before .before .before .before .before in
     let t = now (s .args .table) in
-    let k = sym (c .before .before .before .before .before .u16-at .ensures .0) ∙ c .before .before .before .before .match .keys1 in
+    let k = sym (c .before .before .before .before .before .kind-at .ensures .0) ∙ c .before .before .before .before .match .keys1 in
     rw (items-number t (s .args .at) _ _ (number-row (s .pre .0) (s .pre .1) k .0)) (c .before .before .begin-number .ensures)
 
 returns-2 : tie.Need-returns-2
 returns-2 c =
     let s = c .before .before .before .before .before .before .before .before .before in
     let t = now (s .args .table) in
-    let k = sym (c .before .before .before .before .before .u16-at .ensures .0) ∙ c .before .before .before .before .match .keys2 in
+    let k = sym (c .before .before .before .before .before .kind-at .ensures .0) ∙ c .before .before .before .before .match .keys2 in
     rw (items-variable t (s .args .at) (variable-row (s .pre .0) (s .pre .1) k)) (c .before .before .begin-variable .ensures)
 
 returns-3 : tie.Need-returns-3
 returns-3 c =
     let s = c .before .before .before .before .before .before .before in
-    let k = sym (c .before .before .before .u16-at .ensures .0) ∙ c .before .before .match .keys3 in
+    let k = sym (c .before .before .before .kind-at .ensures .0) ∙ c .before .before .match .keys3 in
     let row = fixed-row (s .pre .0) (s .pre .1) k in
-    rw (c .before .u16-at2 .ensures .0, c .u16-at3 .ensures .0)
+    rw (c .before .count-at .ensures .0, c .run-at .ensures .0)
     (row .2, continues-same (items-fixed (now (s .args .table)) (s .args .at) _ _ (row .0) (row .2 .1)))
 
 pub begin-spec : {M : Type 1} → statement M
 begin-spec =
     tie.close
     (tie.spec
-    (λ c. search needs)
-    u16-at-requires
+    kind-at-requires
     begin-number-requires
     (λ c κs. search needs)
-    (λ c. search needs)
-    u16-at-requires-2
-    (λ c. search needs)
-    u16-at-requires-3
+    count-at-requires
+    run-at-requires
     (λ c κs. search needs)
     (λ c κs. search needs)
     (λ c κs. search needs)

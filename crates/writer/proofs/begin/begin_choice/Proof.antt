@@ -35,8 +35,8 @@ returns c =
     first-missing _ _ (row-items (c .before .before .before .before .before .before .before))
     (next .result) (c .missing .result) (next .ensures) (c .before .enum-told .given .1) (c .missing .ensures)
 
-u16-at-requires : tie.Need-u16-at-requires
-u16-at-requires c κs =
+count-at-requires : tie.Need-count-at-requires
+count-at-requires c κs =
     let s = c .before .before .before .before .before .before .before in
     omega (arith, choice-row (s .pre .0) (s .pre .1) (s .pre .2) .inside)
 
@@ -44,7 +44,7 @@ index-requires : tie.Need-index-requires
 index-requires c κs =
     let s = c .before .before .before .before .before .before .before .before .before in
     let row = choice-row (s .pre .0) (s .pre .1) (s .pre .2) in
-    let e = c .before .u16-at .ensures .0 in
+    let e = c .before .count-at .ensures .0 in
     search needs
 
 -- the index as the code holds it
@@ -63,7 +63,7 @@ value-put c =
     let told = branches .before in
     let a = told .before .before .before .before .before .before .before .args in
     let next = told .before .before .before .next-value in
-    putting _ (next .result) (put .result) _ _ (ap (λ (m : ℕ). index (branchesAt (now (a .table)) (a .at + 6) m)) (branches .u16-at .ensures .0))
+    putting _ (next .result) (put .result) _ _ (ap (λ (m : ℕ). index (branchesAt (now (a .table)) (a .at + 6) m)) (branches .count-at .ensures .0))
     (next .ensures) (told .before .given .given .1) (value-held told) (put .ensures) (c .moved .ensures)
 
 -- the branch that it chooses
@@ -83,18 +83,8 @@ returns-2 c =
     let s = moved .before .before .before .before .before .before .before .before .before .before .before .before .before in
     rw (c .whole .ensures, c .before .enum-told2 .given .1) (first-refused _ _ (row-items s) (value-put moved) (c .before .enum-told2 .given .1))
 
-mul-u16-at : tie.Need-mul-u16-at
-mul-u16-at c =
-    let s = c .before .before .before .before .before .before .before .before .before .before .before .before .before .before .before .before .before in
-    omega (arith, branch c .inside, s .pre .0 .most)
-
-add-u16-at-3 : tie.Need-add-u16-at-3
-add-u16-at-3 c =
-    let s = c .before .before .before .before .before .before .before .before .before .before .before .before .before .before .before .before .before in
-    omega (arith, branch c .inside, s .pre .0 .most)
-
-u16-at-requires-2 : tie.Need-u16-at-requires-2
-u16-at-requires-2 c κs = omega (arith, branch c .inside)
+branch-at-requires : tie.Need-branch-at-requires
+branch-at-requires c κs = omega (arith, branch c .inside)
 
 returns-3 : tie.Need-returns-3
 returns-3 c =
@@ -104,7 +94,7 @@ returns-3 c =
     let s = told .before .before .before .before .before .before .before in
     let chosen = branch counted in
     let same : counted .count-of .result ≡ natural (told .before .given .given .0 .0) = rw (value-held told) at (counted .count-of .ensures) in
-    rw (c .u16-at2 .ensures .0)
+    rw (c .branch-at .ensures .0)
     (chosen .back, continues-trans (first-put _ _ (row-items s) (value-put moved) (counted .before .before .step .given .1)) (continues-same (rw (← same) (chosen .same))))
 
 pub begin-choice-spec : {M : Type 1} → statement M
@@ -116,8 +106,7 @@ begin-choice-spec =
     (λ c. search needs)
     (λ c κs. search needs)
     returns
-    (λ c. search needs)
-    u16-at-requires
+    count-at-requires
     (λ c. search needs)
     index-requires
     (λ c κs. search needs)
@@ -126,10 +115,7 @@ begin-choice-spec =
     (λ c κs. search needs)
     (λ c. search needs)
     returns-2
-    (λ c. search needs)
     (λ c κs. search needs)
-    mul-u16-at
-    add-u16-at-3
-    u16-at-requires-2
+    branch-at-requires
     (λ c. search needs)
     returns-3)

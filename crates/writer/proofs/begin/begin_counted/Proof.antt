@@ -32,13 +32,13 @@ returns c =
     first-missing _ _ (row-items (c .before .before .before .before .before .before .before))
     (next .result) (c .missing .result) (next .ensures) (c .before .enum-told .given .1) (c .missing .ensures)
 
-u16-at-requires : tie.Need-u16-at-requires
-u16-at-requires c κs =
+count-at-requires : tie.Need-count-at-requires
+count-at-requires c κs =
     let s = c .before .before .before .before .before .before .before in
     omega (arith, counted-row (s .pre .0) (s .pre .1) (s .pre .2) .1)
 
-u16-at-requires-2 : tie.Need-u16-at-requires-2
-u16-at-requires-2 c κs =
+run-at-requires : tie.Need-run-at-requires
+run-at-requires c κs =
     let s = c .before .before .before .before .before .before .before .before in
     omega (arith, counted-row (s .pre .0) (s .pre .1) (s .pre .2) .1)
 
@@ -57,7 +57,7 @@ value-put c =
     let most = c .before .before .before .before .before .before in
     let told = most .before in
     let next = told .before .before .before .next-value in
-    putting _ (next .result) (put .result) _ _ (ap (lengthWithin 0) (most .u16-at .ensures .0))
+    putting _ (next .result) (put .result) _ _ (ap (lengthWithin 0) (most .count-at .ensures .0))
     (next .ensures) (told .before .given .given .1) (value-held told) (put .ensures) (c .moved .ensures)
 
 returns-2 : tie.Need-returns-2
@@ -73,7 +73,7 @@ returns-3 c =
     let told = row .before .before in
     let s = told .before .before .before .before .before .before .before in
     let t = now (s .args .table) in
-    rw (rw (value-held told) at (c .count-of .ensures), row .u16-at2 .ensures .0)
+    rw (rw (value-held told) at (c .count-of .ensures), row .run-at .ensures .0)
     (counted-row (s .pre .0) (s .pre .1) (s .pre .2) .2, first-put _ _ (row-items s) (value-put moved) (c .before .before .step .given .1))
 
 pub begin-counted-spec : {M : Type 1} → statement M
@@ -85,10 +85,8 @@ begin-counted-spec =
     (λ c. search needs)
     (λ c κs. search needs)
     returns
-    (λ c. search needs)
-    u16-at-requires
-    (λ c. search needs)
-    u16-at-requires-2
+    count-at-requires
+    run-at-requires
     (λ c. search needs)
     (λ c κs. search needs)
     (λ c κs. search needs)

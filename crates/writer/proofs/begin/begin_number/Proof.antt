@@ -1,15 +1,13 @@
 -- `writer::begin::begin_number` meets its contract. One value, put by its code, whose low and span the row holds.
 -- Assumes nothing.
-use Prim.Native.Nat.{_+_, _≤_}
-use mathlib.Core.Path.{_≡_, refl, ap, ap₂, _∙_}
+use Prim.Native.Nat.{_+_}
+use mathlib.Core.Path.{_≡_, refl, ap₂, _∙_}
 use native.Mathlib.Omega.{arith}
 use borrow.Author.Needs.{needs}
 use denote.Ref.{now}
-use lib.Signed.{mag}
 use mir.Syntax.{w64}
 use mir.Val.{toZ, ofZ}
 use Rattle.octets.specs.Numbers.{u32, signed}
-use Rattle.octets.proofs.Numbers.{mag-signed}
 use Rattle.item.specs.Code.{number}
 use Rattle.encoding.specs.Items.{stop, one}
 use Rattle.parts.proofs.Naturals.{held}
@@ -26,14 +24,11 @@ returns c =
     (next .result) (c .missing .result) (next .ensures) (c .before .enum-told .given .1) (c .missing .ensures)
 
 -- the row's low, as the code holds it
-low-small : (c : tie.After-signed-of) → mag (c .signed-of .result) ≤ 2147483648
-low-small c = rw (c .signed-of .ensures) (mag-signed (c .before .u32-at .result) (c .before .u32-at .ensures .1))
-
-low-held : (c : tie.After-signed-of) → toZ w64 (ofZ w64 (c .signed-of .result)) ≡ c .signed-of .result
-low-held c = held (c .signed-of .result) (omega (arith, low-small c))
+low-held : (c : tie.After-low-at) → toZ w64 (ofZ w64 (c .low-at .result)) ≡ c .low-at .result
+low-held c = held (c .low-at .result) (omega (arith, c .low-at .ensures .1))
 
 number-requires : tie.Need-number-requires
-number-requires c κs = (search needs, rw (low-held (c .before .before)) (low-small (c .before .before)))
+number-requires c κs = (search needs, rw (low-held (c .before .before)) (c .before .before .low-at .ensures .1))
 
 returns-2 : tie.Need-returns-2
 returns-2 c =
@@ -41,12 +36,11 @@ returns-2 c =
     let put = c .before .before .before .before .number in
     let span = c .before .before .before .before .before .before in
     let low = span .before in
-    let word = low .before in
-    let told = word .before in
+    let told = low .before in
     let value = told .before .given in
     let next = told .before .before .before .next-value in
     let a = told .before .before .before .before .before .before .before .args in
-    let code = ap₂ number (low-held low ∙ low .signed-of .ensures ∙ ap signed (word .u32-at .ensures .0)) (span .u32-at2 .ensures .0) in
+    let code = ap₂ number (low-held low ∙ low .low-at .ensures .0) (span .span-at .ensures .0) in
     rw (c .whole .ensures)
     (begins-one (now (a .table)) (a .at) (moved .result)
     (putting _ (next .result) (put .result) _ _ code (next .ensures) (value .given .1) (held (value .given .0 .0) (told .known-told .given .0 .1)) (put .ensures) (moved .ensures)))
@@ -60,10 +54,7 @@ begin-number-spec =
     (λ c. search needs)
     (λ c κs. search needs)
     returns
-    (λ c. search needs)
     (λ c κs. search needs)
-    (λ c κs. search needs)
-    (λ c. search needs)
     (λ c κs. search needs)
     (λ c. search needs)
     number-requires

@@ -32,8 +32,8 @@ returns c =
     first-missing _ _ (row-items (c .before .before .before .before .before .before .before))
     (next .result) (c .missing .result) (next .ensures) (c .before .enum-told .given .1) (c .missing .ensures)
 
-u16-at-requires : tie.Need-u16-at-requires
-u16-at-requires c κs =
+count-at-requires : tie.Need-count-at-requires
+count-at-requires c κs =
     let s = c .before .before .before .before .before .before .before in
     omega (arith, octets-row (s .pre .0) (s .pre .1) (s .pre .2) .1)
 
@@ -52,7 +52,7 @@ value-put c =
     let most = c .before .before .before .before .before in
     let told = most .before in
     let next = told .before .before .before .next-value in
-    putting _ (next .result) (put .result) _ _ (ap (lengthWithin 0) (most .u16-at .ensures .0))
+    putting _ (next .result) (put .result) _ _ (ap (lengthWithin 0) (most .count-at .ensures .0))
     (next .ensures) (told .before .given .given .1) (value-held told) (put .ensures) (c .moved .ensures)
 
 returns-2 : tie.Need-returns-2
@@ -81,8 +81,7 @@ begin-octets-spec =
     (λ c. search needs)
     (λ c κs. search needs)
     returns
-    (λ c. search needs)
-    u16-at-requires
+    count-at-requires
     (λ c. search needs)
     (λ c κs. search needs)
     (λ c κs. search needs)

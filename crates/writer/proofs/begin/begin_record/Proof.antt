@@ -30,31 +30,22 @@ row-at : (s : tie.Start Inv-loop μ-loop) → RecordRow (s .pre .0) (s .pre .1)
 row-at s = record-row (s .pre .0) (s .pre .1) (s .pre .2)
 
 in-row : (c : tie.In-loop Inv-loop μ-loop) → let s = c .before .before .before .before .before .before in
-    (c .before .loop .field < u16 (now (s .args .table)) (s .args .at + 4)) × (s .args .at + 8 + 4 * c .before .loop .field + 1 < length (now (s .args .table)))
+    (c .before .loop .field < u16 (now (s .args .table)) (s .args .at + 4)) × (s .args .at + 10 + 4 * c .before .loop .field ≤ length (now (s .args .table)))
 in-row c =
     let s = c .before .before .before .before .before .before in
-    let e = c .before .before .u16-at .ensures .0 in
+    let e = c .before .before .count-at .ensures .0 in
     (omega (arith, c .loop-test .taken), omega (arith, c .loop-test .taken, row-at s .inside))
 
-u16-at-requires : tie.Need-u16-at-requires Inv-loop μ-loop
-u16-at-requires c κs = omega (arith, row-at (c .before .before .before) .inside)
+count-at-requires : tie.Need-count-at-requires Inv-loop μ-loop
+count-at-requires c κs = omega (arith, row-at (c .before .before .before) .inside)
 
 loop-holds : tie.Need-loop-holds Inv-loop μ-loop
 loop-holds c =
     let s = c .before .before .before .before in
     (omega arith, refl, omega arith, continues-same (record-start (s .pre .0) (s .pre .1) (s .pre .2)))
 
-add-u16-at-2 : tie.Need-add-u16-at-2 Inv-loop μ-loop
-add-u16-at-2 c = omega (arith, in-row c .1, c .before .before .before .before .before .before .pre .0 .most)
-
-mul-u16-at : tie.Need-mul-u16-at Inv-loop μ-loop
-mul-u16-at c = omega (arith, in-row c .1, c .before .before .before .before .before .before .pre .0 .most)
-
-add-u16-at-3 : tie.Need-add-u16-at-3 Inv-loop μ-loop
-add-u16-at-3 c = omega (arith, in-row c .1, c .before .before .before .before .before .before .pre .0 .most)
-
-u16-at-requires-2 : tie.Need-u16-at-requires-2 Inv-loop μ-loop
-u16-at-requires-2 c κs = in-row c .1
+flag-at-requires : tie.Need-flag-at-requires Inv-loop μ-loop
+flag-at-requires c κs = in-row c .1
 
 mark-requires : tie.Need-mark-requires Inv-loop μ-loop
 mark-requires c κs =
@@ -70,7 +61,7 @@ returns c =
     let test = flag .before in
     let loop = test .before .loop in
     let a = test .before .before .before .before .before .before .args in
-    no-mark (now (a .table)) (a .at) (loop .field) _ (loop .mask) (in-row test .0) (loop .inv .2) (flag .u16-at2 .ensures .0) (loop .inv .3)
+    no-mark (now (a .table)) (a .at) (loop .field) _ (loop .mask) (in-row test .0) (loop .inv .2) (flag .flag-at .ensures .0) (loop .inv .3)
     (mark .result) _ (c .match .keys2) (mark .ensures)
 
 loop-again : tie.Need-loop-again Inv-loop μ-loop
@@ -84,14 +75,14 @@ loop-again c =
       omega (arith, test .loop-test .taken),
       search needs,
       marked-lt (loop .field) (loop .mask) _ (loop .inv .2) (m .0),
-      marked-on (now (a .table)) (a .at) (loop .field) _ (loop .mask) (in-row test .0) (loop .inv .2) (flag .u16-at2 .ensures .0) (loop .inv .3) _ _ _ m,
+      marked-on (now (a .table)) (a .at) (loop .field) _ (loop .mask) (in-row test .0) (loop .inv .2) (flag .flag-at .ensures .0) (loop .inv .3) _ _ _ m,
     )
 
 returns-2 : tie.Need-returns-2 Inv-loop μ-loop
 returns-2 c =
     let s = c .before .before .before .before .before .before in
     let loop = c .before .loop in
-    let e : loop .field ≡ u16 (now (s .args .table)) (s .args .at + 4) = omega (arith, c .before .before .u16-at .ensures .0) in (
+    let e : loop .field ≡ u16 (now (s .args .table)) (s .args .at + 4) = omega (arith, c .before .before .count-at .ensures .0) in (
       s .pre .2,
       subst (λ (n : ℕ). loop .mask < 2 ^ n) e (loop .inv .2),
       continues-trans (loop .inv .3) (continues-same (record-end (s .pre .0) (s .pre .1) (s .pre .2) (loop .field) (loop .mask) e)),
@@ -103,13 +94,9 @@ begin-record-spec =
     (tie.spec
     Inv-loop
     μ-loop
-    (λ c. search needs)
-    u16-at-requires
+    count-at-requires
     loop-holds
-    add-u16-at-2
-    mul-u16-at
-    add-u16-at-3
-    u16-at-requires-2
+    flag-at-requires
     mark-requires
     (λ c. search needs)
     (λ c. search needs)
