@@ -1,5 +1,6 @@
--- Document 01's refusal numbers by name, and what each case of an answer stands for in that paper's own terms.
+-- Document 01's refusal numbers by name, and which case of an answer stands for that paper's number and values.
 use Prim.Native.Nat.{ℕ}
+use mathlib.Core.Path.{_≡_}
 use Rattle.answer.specs.declared.Answer.{Answer}
 use Rattle.answer.specs.declared.Answer.the-variants.{Accepted, Refused}
 use Rattle.answer.specs.declared.Counts.{Counts}
@@ -52,13 +53,20 @@ pub record Outcome : Type 0 where
   pub bits : ℕ
   pub octets : ℕ
 
-abbrev pub outcomeOf : Answer → Outcome
-outcomeOf (Accepted c) = record { number = 0; place = 0; values = c .values; bits = c .bits .0; octets = c .octets .0 }
-outcomeOf (Refused r) = record { number = r .number; place = r .place; values = 0; bits = 0; octets = 0 }
-
--- answers, made in these few places alone
+-- the case for each outcome: a refusal's number and place; the values, bits and octets counted. Every promise of an answer uses
+-- these two
 abbrev pub refused : ℕ → ℕ → Answer
 refused number place = Refused (record { number = number; place = place })
 
 abbrev pub accepted : ℕ → ℕ → ℕ → Answer
 accepted values bits octets = Accepted (record { values = values; bits = record { 0 = bits }; octets = record { 0 = octets } })
+
+-- and back: the number and values for each case, as the host is told them
+abbrev pub outcomeOf : Answer → Outcome
+outcomeOf (Accepted c) = record { number = 0; place = 0; values = c .values; bits = c .bits .0; octets = c .octets .0 }
+outcomeOf (Refused r) = record { number = r .number; place = r .place; values = 0; bits = 0; octets = 0 }
+
+-- which is what the case was made of. The proof is proofs/Numbers.antt
+pub record Inverse : Type 0 where
+  pub accepts : (v b o : ℕ) → outcomeOf (accepted v b o) ≡ record { number = 0; place = 0; values = v; bits = b; octets = o }
+  pub refuses : (n p : ℕ) → outcomeOf (refused n p) ≡ record { number = n; place = p; values = 0; bits = 0; octets = 0 }

@@ -1,8 +1,7 @@
 -- What is shown of the built-in tables, each fact by one computation over the octets: the check passes each, where its root
 -- is, and that its octets are the rows of specs/Layout.antt.
 use mathlib.Core.Path.{_≡_, refl}
-use Rattle.octets.specs.Numbers.{u16, u32, signed, u16s}
-use Rattle.item.specs.Answers.{there}
+use Rattle.octets.specs.Numbers.{u16, u32, signed, u16s, there}
 use Rattle.table.specs.Rows.{rowOf, rowAt, rowLength}
 use Rattle.table.specs.Rules.{knownKind, within, flagsInBounds, numbersInBounds, branches, references, someBranch, hasBranch, Obeys}
 use Rattle.table.specs.Verdict.{passed, verdict, obeys, rowTest, rowDepth}

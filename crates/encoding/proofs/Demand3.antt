@@ -8,7 +8,8 @@ use mathlib.Core.List.{List, [], _∷_, _++_}
 use native.Mathlib.Omega.{arith}
 use lib.Dec.{leb}
 use lib.IntN.{ℤ, pos}
-use lib.ListN.{length, getD, replicate}
+use lib.ListN.{length, getD, replicate, take}
+use lib.Seq.{take-append-seam}
 use borrow.Author.Tests.{leb-true, le-leb}
 use Rattle.answer.specs.Numbers.{accepted, refused}
 use Rattle.answer.specs.declared.Counts.{Counts}
@@ -24,7 +25,7 @@ use Rattle.encoding.specs.Reading.{ReadOutcome, accept, refuse, decode, 
 use Rattle.encoding.specs.Writing.{WriteOutcome, written, unwritten, encode, writeOutcome, writeAnswer, writeOctets}
 use Rattle.encoding.specs.Calls.{filled, valuesAfter, outputAfter, readCall, writeCall}
 use Rattle.encoding.specs.Demand3.{Message, Stands, Demand3}
-use Rattle.encoding.proofs.Messages.{Accepted as AcceptedAs, exact, one-list, decode-complete, decode-sound}
+use Rattle.encoding.proofs.Messages.{Accepted as AcceptedAs, exact, one-list, one-message, decode-complete, decode-sound}
 use Rattle.encoding.proofs.Written.{encode-complete}
 
 -- the check's answer is accepted exactly for the verdict passed
@@ -46,7 +47,13 @@ pub accepted-outcome : (x : ReadOutcome) (counts : Counts) → readAnswer x ≡ 
 accepted-outcome (accept vs n) counts e = (vs, n, refl)
 accepted-outcome (refuse n p) counts e = let z : _≡_ {A = ℕ} 0 1 = cc in absurd (omega arith)
 
-length-encoding : (p : Items) (vs : List ℤ) → length (encoding p vs) ≡ size (length (encodingBits p vs))
+-- the list that an accepted reading gives: so many values of the slice
+pub given : (room : ℕ) (x : ReadOutcome) (c : Counts) → readAnswer x ≡ Accepted c → (vs : List ℤ) (n : ℕ) → x ≡ accept vs n → take (c .values) (valuesAfter room x) ≡ vs
+given room x c a vs n e =
+    let z : length vs ≡ c .values = cc in
+    rw (← z, e) (take-append-seam vs (replicate (room - length vs) (pos 0)))
+
+pub length-encoding : (p : Items) (vs : List ℤ) → length (encoding p vs) ≡ size (length (encodingBits p vs))
 length-encoding p vs = length-pack _ _
 
 -- an allowed list is written as its encoding wherever that fits
@@ -59,11 +66,11 @@ module _ (t : List ℕ) where
   passes : Obeys t → verdict t ≡ passed
   passes h = passes-exactly t .1 h
 
-  read-passed : Obeys t → (s : List ℕ) → Message s → (room : ℕ) → readOutcome t s room ≡ decode (asks t) s room
+  pub read-passed : Obeys t → (s : List ℕ) → Message s → (room : ℕ) → readOutcome t s room ≡ decode (asks t) s room
   unfolding readOutcome
   read-passed h s m room = rw (passes h, le-leb (length s) 65535 (m .most))
 
-  write-passed : Obeys t → (vs : List ℤ) (cap : ℕ) → writeOutcome t vs cap ≡ encode (asks t) vs cap
+  pub write-passed : Obeys t → (vs : List ℤ) (cap : ℕ) → writeOutcome t vs cap ≡ encode (asks t) vs cap
   unfolding writeOutcome
   write-passed h vs cap = rw (passes h)
 
@@ -82,5 +89,11 @@ module _ (t : List ℕ) where
     returns = λ h s m room vs a cap l.
         let e = write-passed h vs cap ∙ stands-encode (asks t) s room vs m a cap l in
         (ap writeAnswer e, ap (outputAfter cap) e);
-    apart = λ s s′ room room′ vs a b. sym (a .encodes) ∙ b .encodes;
+    apart = λ h s s′ m m′ room room′ c c′ a b e.
+        let x = accepted-outcome (readOutcome t s room) c a in
+        let y = accepted-outcome (readOutcome t s′ room′) c′ b in
+        let l : x .0 ≡ y .0 = sym (given room (readOutcome t s room) c a (x .0) (x .1) (x .2)) ∙ (e ∙ given room′ (readOutcome t s′ room′) c′ b (y .0) (y .1) (y .2)) in
+        one-message (asks t) s s′ room room′ (m .octets) (m′ .octets) (x .0) (x .1) (y .1)
+        (sym (read-passed h s m room) ∙ x .2)
+        (sym (read-passed h s′ m′ room′) ∙ (y .2 ∙ ap (λ vs. accept vs (y .1)) (sym l)));
   }

@@ -5,3 +5,4 @@ pub mod Walks
 pub mod Spells
 pub mod RowItems
 pub mod Demand3
+pub mod Demand2

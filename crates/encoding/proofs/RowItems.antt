@@ -7,9 +7,9 @@ use mathlib.Core.List.{List, [], _∷_, _++_, map, append-assoc}
 use native.Mathlib.Omega.{arith}
 use lib.IntN.{ℤ, pos}
 use lib.ListN.{length, getD, drop}
+use Rattle.octets.specs.Numbers.{there}
 use Rattle.bits.specs.Bits.{bitsOf, width}
 use Rattle.item.specs.Code.{Code, number, variable, lengthWithin, index, natural, Got, got, bad, decodeItem}
-use Rattle.item.specs.Answers.{there}
 use Rattle.item.proofs.CodeLaws.{decodeItem-complete}
 use Rattle.table.specs.Offsets.{earlier}
 use Rattle.table.specs.Rows.{Row, Number, Variable, FixedRun, CountedRun, Record, Choice, Octets, Unknown, rowAt}
@@ -49,7 +49,7 @@ module _ (t : List ℕ) (o : ℕ) where
   unfolding rowItems
   items-counted most r e h = items-is (CountedRun most r) e ∙ ap (λ p. ask (lengthWithin 0 most) (λ v. times (natural v) p)) (earlier-is stop o (items t) r h)
 
-  fields-earlier : (rs : List ℕ) → All (Earlier t o) rs → (ps : List Bool) → fields (earlier stop o (items t)) rs ps ≡ fields (items t) rs ps
+  pub fields-earlier : (rs : List ℕ) → All (Earlier t o) rs → (ps : List Bool) → fields (earlier stop o (items t)) rs ps ≡ fields (items t) rs ps
   unfolding fields
   fields-earlier [] h ps = refl
   fields-earlier (r ∷ rs) h [] = refl

@@ -80,7 +80,7 @@ written-back p s room h m vs n e cap l =
 pub record Written (p : Items) (vs : List ℤ) (cap : ℕ) (s : List ℕ) : Type 0 where
   pub allowed : Allows p vs
   pub octets : encoding p vs ≡ s
-  pub fits : length s ≤ cap
+  pub fits : length s ≤ min cap 65535
 
 module _ (p : Items) (vs : List ℤ) (s : List ℕ) where
   closeWrite-sound : (cap : ℕ) (w : Writing) → writeItems p vs (8 * min cap 65535) 0 ≡ w → closeWrite (length vs) cap w ≡ written s → Written p vs cap s

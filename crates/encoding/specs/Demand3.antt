@@ -7,7 +7,7 @@ use mathlib.Core.Path.{_≡_}
 use mathlib.Core.Logic.{_↔_}
 use mathlib.Core.List.{List, _++_}
 use lib.IntN.{ℤ, pos}
-use lib.ListN.{length, getD}
+use lib.ListN.{length, getD, take}
 use Rattle.answer.specs.Numbers.{accepted}
 use Rattle.answer.specs.declared.Counts.{Counts}
 use Rattle.answer.specs.declared.Answer.the-variants.{Accepted}
@@ -45,5 +45,8 @@ pub record Demand3 (t : List ℕ) : Type 1 where
   -- written into any slice long enough it gives the same octets, then zeros, and the message's length
   pub returns : Obeys t → (s : List ℕ) → Message s → (room : ℕ) (vs : List ℤ) → Stands (asks t) s room vs → (cap : ℕ) → length s ≤ cap
       → (writeCall t vs cap ≡ accepted 0 0 (length s)) × (outputAfter cap (writeOutcome t vs cap) ≡ filled 0 cap s)
-  -- two messages never give one list, whatever slices they were read into
-  pub apart : (s s′ : List ℕ) (room room′ : ℕ) (vs : List ℤ) → Stands (asks t) s room vs → Stands (asks t) s′ room′ vs → s ≡ s′
+  -- two different messages that are accepted never give the same list, whatever slices they were read into
+  pub apart : Obeys t → (s s′ : List ℕ) → Message s → Message s′ → (room room′ : ℕ) (c c′ : Counts)
+      → readCall t s room ≡ Accepted c → readCall t s′ room′ ≡ Accepted c′
+      → take (c .values) (valuesAfter room (readOutcome t s room)) ≡ take (c′ .values) (valuesAfter room′ (readOutcome t s′ room′))
+      → s ≡ s′

@@ -7,3 +7,4 @@ pub mod Writing
 pub mod Spell
 pub mod Calls
 pub mod Demand3
+pub mod Demand2

@@ -7,8 +7,8 @@ use mathlib.Core.List.{List, [], _∷_, map}
 use lib.Dec.{eqb}
 use lib.IntN.{ℤ, pos}
 use lib.ListN.{getD}
+use Rattle.octets.specs.Numbers.{there}
 use Rattle.item.specs.Code.{Code, number, variable, lengthWithin, index, natural}
-use Rattle.item.specs.Answers.{there}
 use Rattle.table.specs.Offsets.{byOffset}
 use Rattle.table.specs.Rows.{Row, Number, Variable, FixedRun, CountedRun, Record, Choice, Octets, Unknown, rowAt}
 use Rattle.table.specs.Root.{root}

@@ -14,13 +14,13 @@ use Rattle.bits.proofs.Bits.{length-pack, unpack-pack}
 use Rattle.table.specs.Verdict.{checked}
 use Rattle.encoding.specs.Items.{encodingBits}
 use Rattle.encoding.specs.Rows.{asks}
-use Rattle.encoding.specs.Encoding.{size, padding, padded}
+use Rattle.encoding.specs.Encoding.{size, padding, padded, encoding}
 use Rattle.encoding.specs.Reading.{ReadOutcome, accept, readAnswer}
 use Rattle.encoding.specs.Writing.{written, writeAnswer}
 use Rattle.encoding.specs.Calls.{valuesAfter, outputAfter}
 use Rattle.encoding.specs.Demand3.{Message, Stands}
 use Rattle.encoding.proofs.Messages.{one-list}
-use Rattle.encoding.proofs.Demand3.{stands-decode, decode-stands, accepted-outcome, stands-encode}
+use Rattle.encoding.proofs.Demand3.{stands-decode, decode-stands, accepted-outcome, given, stands-encode}
 use Rattle.builtin.specs.Tables.{lm}
 use Rattle.builtin.proofs.Tables.{lm-passes}
 use Rattle.lm.specs.ByName.{lmVersion, lmSubtype, readIf, readLmOutcome, writeLmOutcome}
@@ -112,5 +112,10 @@ demand3-lm = record {
   returns = λ s m room vs a cap l.
       let e = stands-write s m room vs a cap l in
       (ap writeAnswer e, ap (outputAfter cap) e);
-  apart = λ s s′ room room′ vs a b. sym (a .stands .encodes) ∙ b .stands .encodes;
+  apart = λ s s′ m m′ room room′ c c′ a b e.
+      let x = accepted-outcome (readLmOutcome s room) c a in
+      let y = accepted-outcome (readLmOutcome s′ room′) c′ b in
+      let l : x .0 ≡ y .0 = sym (given room (readLmOutcome s room) c a (x .0) (x .1) (x .2)) ∙ (e ∙ given room′ (readLmOutcome s′ room′) c′ b (y .0) (y .1) (y .2)) in
+      sym (read-stands s m room (x .0) (x .1) (x .2) .stands .encodes)
+      ∙ (ap (λ vs. encoding (asks lm) vs) l ∙ read-stands s′ m′ room′ (y .0) (y .1) (y .2) .stands .encodes);
 }

@@ -8,9 +8,8 @@ use mathlib.Core.List.{List, [], _∷_, _++_, map, append-nil, append-assoc}
 use native.Mathlib.Omega.{arith}
 use lib.IntN.{ℤ, pos}
 use lib.ListN.{length, getD, drop, replicate}
-use Rattle.octets.specs.Numbers.{u16, u32, signed, u16s}
+use Rattle.octets.specs.Numbers.{u16, u32, signed, u16s, there}
 use Rattle.bits.specs.Bits.{bitsOf, width, unpack}
-use Rattle.item.specs.Answers.{there}
 use Rattle.table.specs.Offsets.{earlier}
 use Rattle.table.specs.Rows.{Row, Number, Variable, FixedRun, CountedRun, Record, Choice, rowOf, rowAt}
 use Rattle.table.specs.Rows.{Octets as OctetsRow}

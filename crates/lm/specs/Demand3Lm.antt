@@ -6,7 +6,7 @@ use mathlib.Core.Path.{_≡_}
 use mathlib.Core.Logic.{_↔_}
 use mathlib.Core.List.{List}
 use lib.IntN.{ℤ, pos}
-use lib.ListN.{length, getD}
+use lib.ListN.{length, getD, take}
 use Rattle.answer.specs.Numbers.{accepted}
 use Rattle.answer.specs.declared.Counts.{Counts}
 use Rattle.answer.specs.declared.Answer.the-variants.{Accepted}
@@ -38,5 +38,8 @@ pub record Demand3Lm : Type 1 where
   -- written by name into any slice long enough it gives the same octets, then zeros, and the message's length
   pub returns : (s : List ℕ) → Message s → (room : ℕ) (vs : List ℤ) → StandsLm s room vs → (cap : ℕ) → length s ≤ cap
       → (writeLmCall vs cap ≡ accepted 0 0 (length s)) × (outputAfter cap (writeLmOutcome vs cap) ≡ filled 0 cap s)
-  -- two messages never give one list, whatever slices they were read into
-  pub apart : (s s′ : List ℕ) (room room′ : ℕ) (vs : List ℤ) → StandsLm s room vs → StandsLm s′ room′ vs → s ≡ s′
+  -- two different messages that are accepted never give the same list, whatever slices they were read into
+  pub apart : (s s′ : List ℕ) → Message s → Message s′ → (room room′ : ℕ) (c c′ : Counts)
+      → readLmCall s room ≡ Accepted c → readLmCall s′ room′ ≡ Accepted c′
+      → take (c .values) (valuesAfter room (readLmOutcome s room)) ≡ take (c′ .values) (valuesAfter room′ (readLmOutcome s′ room′))
+      → s ≡ s′

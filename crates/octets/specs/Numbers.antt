@@ -1,8 +1,8 @@
 -- The numbers that stand in octets, little-endian (document 01, "Row layout"). Octets past the end count as 0.
 use Prim.Native.Nat.{ℕ, zero, suc, _+_, _-_, _*_}
-use mathlib.Core.Bool.{Bool, true, false, cond}
+use mathlib.Core.Bool.{Bool, true, false, cond, not}
 use mathlib.Core.List.{List, [], _∷_}
-use lib.Dec.{ltb}
+use lib.Dec.{ltb, eqb}
 use lib.ListN.{getD}
 use lib.IntN.{ℤ, pos, negsuc}
 
@@ -22,3 +22,7 @@ signed n = cond (ltb n 2147483648) (pos n) (negsuc (4294967295 - n))
 unfoldable pub u16s : List ℕ → ℕ → ℕ → ℕ → List ℕ
 u16s t o step zero = []
 u16s t o step (suc n) = u16 t o ∷ u16s t (o + step) step n
+
+-- a reference of a choice that is no reserved branch (0xFFFF)
+unfoldable pub there : ℕ → Bool
+there r = not (eqb r 65535)

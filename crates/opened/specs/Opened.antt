@@ -2,7 +2,7 @@
 -- (document 01, "An opened message keeps the lent octets and a bit place together").
 use Prim.Native.Nat.{ℕ}
 use mathlib.Core.Bool.{cond}
-use mathlib.Core.List.{List, [], _∷_}
+use mathlib.Core.List.{List, []}
 use lib.Dec.{ltb}
 use lib.ListN.{length}
 use Rattle.bits.specs.Access.{fetched}
@@ -21,13 +21,16 @@ kept m = cond (ltb 65535 (length m)) [] m
 abbrev pub opening : List ℕ → Answer
 opening m = cond (ltb 65535 (length m)) (refused tooLong 0) (accepted 0 0 0)
 
--- a refusal at p
+-- the case for each outcome of taking: the bits' number and the place after them; a refusal's number and the place that stays
+abbrev pub took : ℕ → ℕ → Taken
+took n next = Number n (record { 0 = next })
+
 abbrev pub refusedAt : ℕ → ℕ → Taken
 refusedAt number p = Refused (record { number = number; place = p })
 
 -- what was fetched at p, as an answer
 abbrev pub ofFetched : ℕ → Fetched → Taken
-ofFetched p (Bits n next) = Number n next
+ofFetched p (Bits n next) = took n (next .0)
 ofFetched p Short = refusedAt messageEnds p
 
 -- k bits taken at p: above 32 is 6, then too few bits is 2
@@ -38,9 +41,3 @@ taken m p k = cond (ltb 32 k) (refusedAt aboveMost p) (ofFetched p (fetched m p 
 abbrev pub placeOf : Taken → ℕ
 placeOf (Number n next) = next .0
 placeOf (Refused r) = r .place
-
--- an outcome in document 01's numbers: the refusal's, 0 where bits were taken; the place after, which is the one reported; the
--- bits' number, 0 where none were taken
-abbrev pub toldOf : Taken → List ℕ
-toldOf (Number n next) = 0 ∷ next .0 ∷ n ∷ []
-toldOf (Refused r) = r .number ∷ r .place ∷ 0 ∷ []

@@ -8,7 +8,7 @@ use bits::OctetSize;
 ghost use mathlib.Core.Path.{_≡_};
 ghost use Prim.Native.Nat.{_≤_};
 ghost use lib.ListN.{length};
-ghost use Rattle.opened.specs.Opened.{kept, opening, refusedAt, ofFetched, taken, placeOf, toldOf};
+ghost use Rattle.opened.specs.Opened.{kept, opening, refusedAt, ofFetched, taken, placeOf};
 
 // One that `open` made holds at most 65,535 octets. Taking bits from any other is as if its octets were opened anew.
 pub struct Opened<'a> {
@@ -28,9 +28,9 @@ const MOST_OCTETS: usize = 65535;
 // The most bits that are taken at once.
 const MOST_BITS: u32 = 32;
 
-// The octets that an opened message holds: those of the message, or none where they are too many.
+// The octets that an opened message holds: the lent ones themselves, or none of them where they are too many.
 fn held<'a>(message: &'a [u8]) -> &'a [u8]
-    ensures { λ r. ⌜ (now r ≡ kept (now (message .entry))) × (length (now r) ≤ 65535) ⌝ }
+    ensures { λ r. ⌜ (now r ≡ kept (now (message .entry))) × (r .ptr ≡ message .entry .ptr) × (length (now r) ≤ 65535) ⌝ }
 {
     if MOST_OCTETS < message.len() {
         return &message[..0];
@@ -67,8 +67,8 @@ fn of_fetched(place: BitPlace, fetched: Fetched) -> Taken
     }
 }
 
-// Takes k bits at a place of the octets that are held.
-fn take_at(message: &[u8], place: BitPlace, k: u32) -> Taken
+// Takes k bits at a place of the octets that are held. A place beyond the end is 2 at that place, for every k to 32.
+pub fn take_from(message: &[u8], place: BitPlace, k: u32) -> Taken
     ensures { λ r. ⌜ r ≡ taken (kept (now (message .entry))) (place .0) k ⌝ }
 {
     if MOST_BITS < k {
@@ -78,7 +78,7 @@ fn take_at(message: &[u8], place: BitPlace, k: u32) -> Taken
 }
 
 // Where taking leaves an opened message: k on, or where it was.
-pub fn place_after(taken: Taken) -> BitPlace
+fn place_after(taken: Taken) -> BitPlace
     ensures { λ r. ⌜ r .0 ≡ placeOf taken ⌝ }
 {
     match taken {
@@ -87,19 +87,9 @@ pub fn place_after(taken: Taken) -> BitPlace
     }
 }
 
-// What was taken as three numbers: the refusal's or 0, the place after, and the bits' number.
-pub fn told(taken: Taken) -> [u64; 3]
-    ensures { λ r. ⌜ r ≡ toldOf taken ⌝ }
-{
-    match taken {
-        Taken::Number(number, next) => [0, next.0 as u64, number as u64],
-        Taken::Refused(refusal) => [refusal.number as u64, refusal.place as u64, 0],
-    }
-}
-
-// Opens a message, at its first bit.
+// Opens a message, at its first bit. The octets are not copied: they stay where they were lent.
 pub fn open<'a>(message: &'a [u8]) -> Opened<'a>
-    ensures { λ r. ⌜ (now (r .message) ≡ kept (now (message .entry))) × (r .place .0 ≡ 0) ⌝ }
+    ensures { λ r. ⌜ (now (r .message) ≡ kept (now (message .entry))) × (r .message .ptr ≡ message .entry .ptr) × (r .place .0 ≡ 0) ⌝ }
 {
     Opened {
         message: held(message),
@@ -107,35 +97,11 @@ pub fn open<'a>(message: &'a [u8]) -> Opened<'a>
     }
 }
 
-// What taking k bits gives; the message stays where it is.
-pub fn peek<'a>(opened: Opened<'a>, k: u32) -> Taken
-    ensures { λ r. ⌜ r ≡ taken (kept (now (opened .entry .message))) (opened .entry .place .0) k ⌝ }
-{
-    take_at(opened.message, opened.place, k)
-}
-
 // Takes k bits and moves on behind them; a refusal leaves the message where it was.
 pub fn take<'s, 'a>(opened: &'s mut Opened<'a>, k: u32) -> Taken
     ensures { λ r. ⌜ (r ≡ taken (kept (now (now (opened .entry) .message))) (now (opened .entry) .place .0) k) × (now (opened .exit) .message ≡ now (opened .entry) .message) × (now (opened .exit) .place .0 ≡ placeOf r) ⌝ }
 {
-    let taken = take_at(opened.message, opened.place, k);
+    let taken = take_from(opened.message, opened.place, k);
     opened.place = place_after(taken);
     taken
-}
-
-// The same octets at another place.
-pub fn moved<'a>(opened: Opened<'a>, place: BitPlace) -> Opened<'a>
-    ensures { λ r. ⌜ (r .message ≡ opened .entry .message) × (r .place ≡ place) ⌝ }
-{
-    Opened {
-        message: opened.message,
-        place,
-    }
-}
-
-// Opens a message, moves to a place and takes k bits there. A place beyond the end is 2 at that place, for every k to 32.
-pub fn take_from(message: &[u8], place: BitPlace, k: u32) -> Taken
-    ensures { λ r. ⌜ r ≡ taken (kept (now (message .entry))) (place .0) k ⌝ }
-{
-    peek(moved(open(message), place), k)
 }

@@ -7,10 +7,10 @@ use mathlib.Core.List.{List, [], _∷_, map}
 use native.Mathlib.Omega.{arith}
 use lib.IntN.{ℤ, pos, negsuc, +ℤ-idr}
 use lib.ListN.{length, getD}
-use Rattle.octets.specs.Numbers.{u16, u16s}
+use Rattle.octets.specs.Numbers.{u16, u16s, there}
 use Rattle.octets.proofs.Numbers.{length-u16s, getD-u16s}
 use Rattle.item.specs.Code.{index, natural, ofNatural, allows}
-use Rattle.item.specs.Answers.{there, branchesAt}
+use Rattle.item.specs.Answers.{branchesAt}
 use Rattle.table.specs.Offsets.{earlier}
 use Rattle.table.specs.Rules.{Obeys, Starts, Earlier}
 use Rattle.table.proofs.Offsets.{earlier-is}

@@ -1,4 +1,5 @@
-// Exported for the tests in host/ alone: the calls by name, which the host's three calls do not reach. No part of the product.
+// For the tests in host/ alone and no part of the product, so that nothing here has a contract: the calls by name, which the
+// host's three calls do not reach.
 use bits::BitPlace;
 use elements::Home;
 use opened::Taken;

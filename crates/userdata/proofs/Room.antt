@@ -10,11 +10,10 @@ use lib.Dec.{leb, ltb, eqb}
 use lib.IntN.{ℤ, pos, _-ℤ_}
 use lib.ListN.{length, drop, getD, replicate, length-append}
 use borrow.Author.Tests.{leb-true}
-use Rattle.octets.specs.Numbers.{u16, u32, signed, u16s}
+use Rattle.octets.specs.Numbers.{u16, u32, signed, u16s, there}
 use Rattle.bits.specs.Bits.{width, unpack}
 use Rattle.bits.proofs.Bits.{length-bitsOf, length-unpack}
 use Rattle.item.specs.Code.{Code, number, variable, lengthWithin, index, indexWidth, spelling, natural, valueBits, Got, got, bad, provided, bitField, onesUpTo, octetField, leastOf, base, variableOnes, lengthOnes, lowOf, decodeOffset, above, decodeItem}
-use Rattle.item.specs.Answers.{there}
 use Rattle.item.proofs.CodeLaws.{length-leading, decodeItem-sound}
 use Rattle.table.specs.Offsets.{earlier}
 use Rattle.table.specs.Rows.{Row, Number, Variable, FixedRun, CountedRun, Record, Choice, Octets, Unknown, rowOf, rowAt}

@@ -33,10 +33,17 @@ taken (ask c k) (v ∷ vs) = suc (taken (k v) vs)
 unfoldable pub dataLength : List ℤ → ℕ
 dataLength vs = natural (getD vs (taken headers vs) (pos 0))
 
+-- the case for each outcome: a part's start and length in octets; a refusal's number and place
+abbrev pub foundAt : ℕ → ℕ → Found
+foundAt start length = At (record { start = record { 0 = start }; length = record { 0 = length } })
+
+abbrev pub notFound : ℕ → ℕ → Found
+notFound number place = Refused (record { number = number; place = place })
+
 -- where it stands in a message of n octets, by the outcome of reading: it comes last
 abbrev pub foundIn : ℕ → ReadOutcome → Found
-foundIn n (accept vs bits) = At (record { start = record { 0 = n - dataLength vs }; length = record { 0 = dataLength vs } })
-foundIn n (refuse number place) = Refused (record { number = number; place = place })
+foundIn n (accept vs bits) = foundAt (n - dataLength vs) (dataLength vs)
+foundIn n (refuse number place) = notFound number place
 
 -- the call that says where
 unfoldable pub userDataFound : List ℕ → Found

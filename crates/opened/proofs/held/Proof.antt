@@ -1,5 +1,6 @@
 -- `opened::held` meets its contract: by the test of the length.
 -- Assumes nothing.
+use mathlib.Core.Path.{refl}
 use native.Mathlib.Omega.{arith}
 use borrow.Author.Tests.{lt-ltb, le-ltb}
 use borrow.Author.Needs.{needs}
@@ -12,10 +13,10 @@ slice-aggregate-result : tie.Need-slice-aggregate-result
 slice-aggregate-result c = search needs
 
 returns : tie.Need-returns
-returns c = (simp (lt-ltb _ _ (c .before .if1 .taken)), search needs)
+returns c = (simp (lt-ltb _ _ (c .before .if1 .taken)), refl, search needs)
 
 returns-2 : tie.Need-returns-2
-returns-2 c = (simp (le-ltb _ _ (c .if1 .left)), omega (arith, c .if1 .left))
+returns-2 c = (simp (le-ltb _ _ (c .if1 .left)), refl, omega (arith, c .if1 .left))
 
 pub held-spec : {M : Type 1} → statement M
 held-spec = tie.close (tie.spec slice-aggregate-result returns returns-2)

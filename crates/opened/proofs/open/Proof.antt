@@ -95,7 +95,7 @@ module _ {M : Type 1} (𝓤 : URA M) (H : Heap 𝓤) (A : Atoms 𝓤) (W : Given
       move ! (0 ∷ 2 ∷ []) $ fjoin ! $ move ! (2 ∷ 0 ∷ []) $ use2 W (raw (Held 𝓤 H A mem run .pre to)) (qed W ((‵ (flft κ q) ⊛ ‵ ftrue) ∷ ‵ (owns (ShrSlice (named 0) κ u8 ∷ []) (s, tt) (slice s ∷ [], tt)) ∷ []) ∵ join ! $ frame ! $ done !) $ frame ! $ done !
 
   abbrev Known : RefT (List ℕ) → Type 0
-  Known r = (now r ≡ kept (now s)) × (length (now r) ≤ 65535)
+  Known r = (now r ≡ kept (now s)) × (r .ptr ≡ s .ptr) × (length (now r) ≤ 65535)
 
   said : (r : RefT (List ℕ)) → ent 𝓤 (ensured 𝓤 H A held.ended (held.clauses 𝓤 H A mem run) (κ, tt) (s, tt) tt r) (fact 𝓤 (Known r))
   said r = exE 𝓤 _ (λ ws. snd∗ 𝓤 (sem 𝓤 H A (lasts held.ended (κ, tt) (s, tt) ws)) (fact 𝓤 (Known r)))
@@ -103,7 +103,7 @@ module _ {M : Type 1} (𝓤 : URA M) (H : Heap 𝓤) (A : Atoms 𝓤) (W : Given
   exits : (r : RefT (List ℕ)) → Known r → ent 𝓤 (⋆ 𝓤 H A (‵ (Own r) ∷ (‵ (flft κ q) ⊛ ‵ ftrue) ∷ ‵ (Own s) ∷ [])) (Post (T′.lowered (made r)))
   exits r e =
       qed W (‵ (Own r) ∷ (‵ (flft κ q) ⊛ ‵ ftrue) ∷ ‵ (Own s) ∷ []) ∵
-      suffices ! _ (ends-at 𝓤 H A opens.ended stayed (opens.clauses 𝓤 H A mem run) W (((κ, tt), (q, tt), tt, (s, tt), (slice s ∷ [], tt)), tt) (T′.lowered (made r)) (made r) (tt, tt) (tt, tt)) $ says ! (e .0, refl) $
+      suffices ! _ (ends-at 𝓤 H A opens.ended stayed (opens.clauses 𝓤 H A mem run) W (((κ, tt), (q, tt), tt, (s, tt), (slice s ∷ [], tt)), tt) (T′.lowered (made r)) (made r) (tt, tt) (tt, tt)) $ says ! (e .0, e .1, refl) $
       move ! (1 ∷ []) $ frame ! $ nothing ! $ move ! (2 ∷ 0 ∷ []) $ fjoin ! $ frame ! $
       -- [what the slice owns]: what the fields own together, of it and of the place's facts, is what the struct owns
       nothing ! $ owned ! Q.the-row (Is Q.the-row) (LL.makes Q.the-type Q′.the-plain 𝓤 H A) first-bit (Q′.lowered first-bit ∷ []) (LL.owes Q.the-type Q′.the-laws first-bit ((refl, lit< tt), tt)) $ fjoin ! $ move ! (1 ∷ 0 ∷ []) $ fjoin ! $ by ! (own-shut 𝓤 H A W (T.the-type α) (T′.the-laws α) (r, (first-bit, tt)))

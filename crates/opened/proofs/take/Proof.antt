@@ -1,5 +1,5 @@
--- `opened::take` meets its contract: a walk of its MIR, by hand. The borrow is opened, `take_at` is called on the slice and the place that the struct holds, and the borrow is closed at the struct with the place that `place_after` gives. All that the proof knows of the two is that each meets its contract.
--- What a slice owns is had twice, once for `take_at`; what the new place owns takes the place of what the old one did.
+-- `opened::take` meets its contract: a walk of its MIR, by hand. The borrow is opened, `take_from` is called on the slice and the place that the struct holds, and the borrow is closed at the struct with the place that `place_after` gives. All that the proof knows of the two is that each meets its contract.
+-- What a slice owns is had twice, once for `take_from`; what the new place owns takes the place of what the old one did.
 -- Assumes nothing.
 use mathlib.Core.Path.{_≡_, refl, ap}
 use Prim.Native.Nat.{ℕ, _<_, _^_}
@@ -56,10 +56,10 @@ use Rattle.opened.proofs.Opened as T
 use Rattle.opened.proofs.Opened.Laws as T′
 use Rattle.opened.proofs.Taken as S
 use Rattle.opened.proofs.Taken.Laws as S′
-use Rattle.opened.proofs.take_at as taking
-use Rattle.opened.proofs.take_at.Symbol as taking-def
-use Rattle.opened.proofs.take_at.Symbol.{name as #opened·take-at}
-use Rattle.opened.proofs.take_at.Met as taking-thm
+use Rattle.opened.proofs.take_from as taking
+use Rattle.opened.proofs.take_from.Symbol as taking-def
+use Rattle.opened.proofs.take_from.Symbol.{name as #opened·take-from}
+use Rattle.opened.proofs.take_from.Met as taking-thm
 use Rattle.opened.proofs.place_after as placing
 use Rattle.opened.proofs.place_after.Symbol as placing-def
 use Rattle.opened.proofs.place_after.Symbol.{name as #opened·place-after}
@@ -85,8 +85,8 @@ stayed = (stay-ref (0 ∷ []) tt behind, (stay-none (λ _. u32) yes, tt))
 
 module _ {M : Type 1} (𝓤 : URA M) (H : Heap 𝓤) (A : Atoms 𝓤) (at-mem : Memory → SProp 𝓤) (run : Routine → Fun 𝓤) where
   -- the contracts that the proof cites
-  abbrev TakeAt : Contract 𝓤
-  TakeAt = tripleOf 𝓤 H A taking.signature (taking.spec 𝓤 H A at-mem run)
+  abbrev TakeFrom : Contract 𝓤
+  TakeFrom = tripleOf 𝓤 H A taking.signature (taking.spec 𝓤 H A at-mem run)
 
   abbrev PlaceAfter : Contract 𝓤
   PlaceAfter = tripleOf 𝓤 H A placing.signature (placing.spec 𝓤 H A at-mem run)
@@ -124,24 +124,24 @@ module _ {M : Type 1} (𝓤 : URA M) (H : Heap 𝓤) (A : Atoms 𝓤) (W : Given
   abbrev Own : Opened → Fml
   Own d = B κ′ .own d (T′.lowered d ∷ [])
 
-  -- the call of `take_at`
+  -- the call of `take_from`
   abbrev passed : Vals taking.signature (κ′, tt)
   passed = (v ∷ [], (Q′.lowered (h .place) ∷ [], (vint w32 k ∷ [], tt)))
 
-  abbrev to-take : TakeAt 𝓤 H A at-mem run .Ghost
+  abbrev to-take : TakeFrom 𝓤 H A at-mem run .Ghost
   to-take = (((κ′, tt), (q′, tt), tt, (h .message, (h .place, (k, tt))), passed), tt)
 
-  asked : ent 𝓤 (onEntry 𝓤 H A taking.signature (κ′, tt) (q′, tt) (h .message, (h .place, (k, tt))) passed) (TakeAt 𝓤 H A at-mem run .pre to-take)
+  asked : ent 𝓤 (onEntry 𝓤 H A taking.signature (κ′, tt) (q′, tt) (h .message, (h .place, (k, tt))) passed) (TakeFrom 𝓤 H A at-mem run .pre to-take)
   asked = qed W ((‵ (flft κ′ q′) ⊛ ‵ ftrue) ∷ ‵ (owns (ShrSlice (named 0) κ′ u8 ∷ Q.the-row ∷ u32 ∷ []) (h .message, (h .place, (k, tt))) passed) ∷ []) ∵ join ! $ frame ! $ done !
 
-  apart : ent 𝓤 (⋆ 𝓤 H A (‵ (Own h) ∷ (‵ (flft κ′ q′) ⊛ ‵ ftrue) ∷ [])) (sep 𝓤 (TakeAt 𝓤 H A at-mem run .pre to-take) (sem 𝓤 H A (Own h)))
+  apart : ent 𝓤 (⋆ 𝓤 H A (‵ (Own h) ∷ (‵ (flft κ′ q′) ⊛ ‵ ftrue) ∷ [])) (sep 𝓤 (TakeFrom 𝓤 H A at-mem run .pre to-take) (sem 𝓤 H A (Own h)))
   apart =
       qed W (‵ (Own h) ∷ (‵ (flft κ′ q′) ⊛ ‵ ftrue) ∷ []) ∵
       use1 W (‵ (Own h) ⊛ ‵ (Own h)) (LL.copy D (T′.the-copy (α κ′)) 𝓤 H A W .twice h (T′.lowered h ∷ [])) $ split ! $
       use1 W (given (T′.lowered h ∷ [] ≡ T′.lowered h ∷ []) (‵ (all-own (D .parts) L vd))) (own-open 𝓤 H A W D L vd (T′.lowered h)) $ learn ! (λ _.
       -- [what the fields own together; what the struct owns; the token]
       fsplit ! $ move ! (1 ∷ []) $ fsplit ! $ move ! (1 ∷ []) $ drop ! $ nothing ! $ owned ! u32 (Is u32) (uint-makes 𝓤 H A W w32) k _ (refl, ok) $ fjoin ! $ move ! (1 ∷ 0 ∷ []) $ fjoin ! $ move ! (1 ∷ 0 ∷ []) $ fjoin ! $
-      move ! (2 ∷ 0 ∷ []) $ use2 W (raw (TakeAt 𝓤 H A at-mem run .pre to-take)) asked $ frame ! $ done !)
+      move ! (2 ∷ 0 ∷ []) $ use2 W (raw (TakeFrom 𝓤 H A at-mem run .pre to-take)) asked $ frame ! $ done !)
 
   take-said : (r : Taken) → ent 𝓤 (ensured 𝓤 H A taking.ended (taking.clauses 𝓤 H A at-mem run) (κ′, tt) (h .message, (h .place, (k, tt))) tt r) (fact 𝓤 (r ≡ found))
   take-said r = exE 𝓤 _ (λ ws. snd∗ 𝓤 (sem 𝓤 H A (lasts taking.ended (κ′, tt) (h .message, (h .place, (k, tt))) ws)) (fact 𝓤 (r ≡ found)))
@@ -164,7 +164,7 @@ module _ {M : Type 1} (𝓤 : URA M) (H : Heap 𝓤) (A : Atoms 𝓤) (W : Given
       move ! (2 ∷ 4 ∷ []) $ join ! $
       frame ! $ feqI ! (List Val) (vptr b o ∷ []) (vptr b o ∷ []) refl $ fjoin3 ! $ nothing ! $ owned ! u32 (Is u32) (uint-makes 𝓤 H A W w32) k _ (refl, ok) $ fjoin ! $ move ! (1 ∷ 0 ∷ []) $ fjoin ! $ done !
 
-  module _ (C : Calls 𝓤 H) (Λ : Loops 𝓤 H) (fm : FmC 𝓤 H (W .laws) C) (known-take : Triple 𝓤 (C #opened·take-at) (TakeAt 𝓤 H A at-mem run)) (known-place : Triple 𝓤 (C #opened·place-after) (PlaceAfter 𝓤 H A at-mem run)) where
+  module _ (C : Calls 𝓤 H) (Λ : Loops 𝓤 H) (fm : FmC 𝓤 H (W .laws) C) (known-take : Triple 𝓤 (C #opened·take-from) (TakeFrom 𝓤 H A at-mem run)) (known-place : Triple 𝓤 (C #opened·place-after) (PlaceAfter 𝓤 H A at-mem run)) where
     walk : ent 𝓤 (onEntry 𝓤 H A next.signature (κ, (κ′, tt)) (q, (q′, tt)) x at) (WpFn 𝓤 H C Λ code.function (vptr b o ∷ vint w32 k ∷ []) Post)
     walk =
         qed W ((‵ (flft κ q) ⊛ ‵ (flft κ′ q′) ⊛ ‵ ftrue) ∷ ‵ (owns (MutRef (named 0) κ (B κ′) ∷ u32 ∷ []) x at) ∷ []) ∵ enter ! C Λ code.function (vptr b o ∷ vint w32 k ∷ []) _ $
@@ -176,9 +176,9 @@ module _ {M : Type 1} (𝓤 : URA M) (H : Heap 𝓤) (A : Atoms 𝓤) (W : Given
         -- [the struct's cell; what it owns; the open borrow; obs; auth; 'a's token; k's; _5; …; _4; …; _3; …; _2; …; _1; …; room for _0; …]
         assigns ! (of-opd ! (load ! (from ! (hop ! (look ! 15 refl) (fld ! refl (stop !)))) (look-in ! 0 (sub ! 0 refl (whole !))))) (from ! (stop !)) (init ! 9 refl (tt, LL.lawful D L 𝓤 H A W .typed h _ was .0 .1 .0)) $
         assigns ! (of-opd ! (load ! (from ! (hop ! (look ! 15 refl) (fld ! refl (stop !)))) (look-in ! 0 (sub ! 1 refl (whole !))))) (from ! (stop !)) (init ! 7 refl (tt, LL.lawful D L 𝓤 H A W .typed h _ was .0 .1 .1 .0)) $
-        move ! (1 ∷ 5 ∷ []) $ use2 W (raw (TakeAt 𝓤 H A at-mem run .pre to-take) ⊛ ‵ (Own h)) apart $ split ! $
-        -- [what `take_at` asks; what the struct owns; its cell; the open borrow; obs; auth; k's; _5; …]
-        calls-at ! fm (TakeAt 𝓤 H A at-mem run) known-take to-take (and-then ! (load ! (from ! (stop !)) (look ! 9 refl)) (and-then ! (load ! (from ! (stop !)) (look ! 7 refl)) (and-then ! (load ! (from ! (stop !)) (look ! 13 refl)) (no-more !)))) (λ u.
+        move ! (1 ∷ 5 ∷ []) $ use2 W (raw (TakeFrom 𝓤 H A at-mem run .pre to-take) ⊛ ‵ (Own h)) apart $ split ! $
+        -- [what `take_from` asks; what the struct owns; its cell; the open borrow; obs; auth; k's; _5; …]
+        calls-at ! fm (TakeFrom 𝓤 H A at-mem run) known-take to-take (and-then ! (load ! (from ! (stop !)) (look ! 9 refl)) (and-then ! (load ! (from ! (stop !)) (look ! 7 refl)) (and-then ! (load ! (from ! (stop !)) (look ! 13 refl)) (no-more !)))) (λ u.
         use1 W (later (some (λ (r : Taken). ((‵ (flft κ′ q′) ⊛ ‵ ftrue) ⊛ ‵ (S.the-row .own r (u ∷ []))) ⊛ raw (ensured 𝓤 H A taking.ended (taking.clauses 𝓤 H A at-mem run) (κ′, tt) (h .message, (h .place, (k, tt))) tt r)))) (id⊢ 𝓤 _) $ await ! tt $ pick ! (λ r.
         split ! $ move ! (1 ∷ []) $ use1 W (raw (fact 𝓤 (r ≡ found))) (take-said r) $ heard ! (r ≡ found) (λ e. split ! $ move ! (1 ∷ []) $
         -- [the answer; 'a's token; what the struct owns; its cell; the open borrow; obs; auth; k's; _5; …]
@@ -207,13 +207,13 @@ module _ {M : Type 1} (𝓤 : URA M) (H : Heap 𝓤) (A : Atoms 𝓤) (W : Given
         keep ! (0 ∷ 1 ∷ 2 ∷ 3 ∷ 4 ∷ []) $ by ! (exits r u p e e′))))))))))))))))))
 
 module _ {M : Type 1} (𝓤 : URA M) (H : Heap 𝓤) (A : Atoms 𝓤) (W : Given 𝓤 H A) (at-mem : Memory → SProp 𝓤) (run : Routine → Fun 𝓤) where
-  take-walks : (C : Calls 𝓤 H) (Λ : Loops 𝓤 H) → FmC 𝓤 H (W .laws) C → Triple 𝓤 (C #opened·take-at) (TakeAt 𝓤 H A at-mem run) → Triple 𝓤 (C #opened·place-after) (PlaceAfter 𝓤 H A at-mem run)
+  take-walks : (C : Calls 𝓤 H) (Λ : Loops 𝓤 H) → FmC 𝓤 H (W .laws) C → Triple 𝓤 (C #opened·take-from) (TakeFrom 𝓤 H A at-mem run) → Triple 𝓤 (C #opened·place-after) (PlaceAfter 𝓤 H A at-mem run)
       → Walks 𝓤 H A next.ended stayed (WpFn 𝓤 H C Λ code.function) (next.clauses 𝓤 H A at-mem run)
   take-walks C Λ fm known-take known-place = walked 𝓤 H A next.ended stayed (next.clauses 𝓤 H A at-mem run) (WpFn 𝓤 H C Λ code.function) (λ κs. (ptr-vals, (uint-vals w32, tt))) (λ κs. (mut-tells (named 0) (κs .0) (B (κs .1 .0)), (uint-tells w32, tt)))
       (λ κs qs bounds a _ are. via 𝓤 _ (fst∗ 𝓤 _ (emp 𝓤)) (walk 𝓤 H A W at-mem run (κs .0) (κs .1 .0) (qs .0) (qs .1 .0) bounds (a .0 .ptr .0) (a .0 .ptr .1) (a .0 .name) (a .0 .now) (a .1 .0) (are .1 .0 .1) C Λ fm known-take known-place))
 
 take-meets : {M : Type 1} (𝓤 : URA M) (H : Heap 𝓤) (A : Atoms 𝓤) → Given 𝓤 H A → (at-mem : Memory → SProp 𝓤) (run : Routine → Fun 𝓤) (𝓣 : Tables 𝓤 H)
-    → Triple 𝓤 (𝓣 .C #opened·take-at) (TakeAt 𝓤 H A at-mem run) → Triple 𝓤 (𝓣 .C #opened·place-after) (PlaceAfter 𝓤 H A at-mem run)
+    → Triple 𝓤 (𝓣 .C #opened·take-from) (TakeFrom 𝓤 H A at-mem run) → Triple 𝓤 (𝓣 .C #opened·place-after) (PlaceAfter 𝓤 H A at-mem run)
     → Meets 𝓤 H A next.signature (WpFn 𝓤 H (𝓣 .C) (𝓣 .Λ) code.function) (next.spec 𝓤 H A at-mem run)
 take-meets 𝓤 H A W at-mem run 𝓣 known-take known-place = walk-meets 𝓤 H A next.ended stayed W (goes-ref 𝓤 H A W 2 0 tt behind, (goes-none 𝓤 H A W 2 (λ _. u32) yes (λ κs x f. refl), tt)) (next.clauses 𝓤 H A at-mem run) (WpFn 𝓤 H (𝓣 .C) (𝓣 .Λ) code.function) (WpFn-mono 𝓤 H (W .laws) 𝓣 code.function)
     (take-walks 𝓤 H A W at-mem run (𝓣 .C) (𝓣 .Λ) (fmOf 𝓤 H (W .laws) 𝓣) known-take known-place)
@@ -224,5 +224,5 @@ take-spec 𝓤 H 𝓜 𝓖 𝓡 =
     entered 𝓤 H (tripleOf 𝓤 H (𝓖 .A) next.signature (next.spec 𝓤 H (𝓖 .A) (𝓜 .mem) (𝓡 .run)))
     (tables 𝓤 H 𝓜 𝓡 code.env .C) (tables 𝓤 H 𝓜 𝓡 code.env .Λ) #opened·take code.function (code.unfolded 𝓤 H 𝓜 𝓡)
     (take-meets 𝓤 H (𝓖 .A) (givenOf 𝓤 H 𝓜 𝓖) (𝓜 .mem) (𝓡 .run) (tablesOf 𝓤 H 𝓜 (tables 𝓤 H 𝓜 𝓡 code.env))
-    (cited 𝓤 H (TakeAt 𝓤 H (𝓖 .A) (𝓜 .mem) (𝓡 .run)) 𝓜 𝓡 code.env #opened·take-at taking-def.routine code.calls-opened·take-at (taking-thm.met 𝓤 H 𝓜 𝓖 𝓡))
+    (cited 𝓤 H (TakeFrom 𝓤 H (𝓖 .A) (𝓜 .mem) (𝓡 .run)) 𝓜 𝓡 code.env #opened·take-from taking-def.routine code.calls-opened·take-from (taking-thm.met 𝓤 H 𝓜 𝓖 𝓡))
     (cited 𝓤 H (PlaceAfter 𝓤 H (𝓖 .A) (𝓜 .mem) (𝓡 .run)) 𝓜 𝓡 code.env #opened·place-after placing-def.routine code.calls-opened·place-after (placing-thm.met 𝓤 H 𝓜 𝓖 𝓡)))
