@@ -1,5 +1,7 @@
 -- What holds of the bench program's state from turn to turn: its indices lie within the buffers, and there is room for the last lines.
-use Prim.Native.Nat.{ℕ, _+_, _≤_, min}
+use Prim.Native.Nat.{ℕ, _+_, _-_, _≤_, min}
+use mathlib.Core.List.{List}
+use lib.ListN.{take, drop}
 use Rattle.bench.specs.declared.State.{State}
 use Rattle.bench.specs.declared.Led.{Led}
 use Rattle.bench.specs.declared.Led.the-variants.{Next, End, Bad, Lost}
@@ -16,13 +18,21 @@ HeldAfter (End s) = Held s
 HeldAfter (Bad s) = Held s
 HeldAfter Lost = Unit {0}
 
--- what is held after a frame of a size, whose line ends at an index: the counts stop at the largest number of 64 bits
+-- the octets at hand: read and not used
+abbrev pub atHand : State → List ℕ → List ℕ
+atHand s input = take (s .end - s .from) (drop (s .from) input)
+
+-- a count stops at the largest number of 64 bits; no input is that long
+abbrev pub counted : ℕ → ℕ
+counted n = min n 18446744073709551615
+
+-- what is held after a frame of a size, whose line ends at an index
 abbrev pub afterFrame : State → ℕ → ℕ → State
 afterFrame s size lines =
     record {
       from = s .from + size;
       end = s .end;
       lines = lines;
-      offset = min (s .offset + size) 18446744073709551615;
-      frames = min (s .frames + 1) 18446744073709551615;
+      offset = counted (s .offset + size);
+      frames = counted (s .frames + 1);
     }

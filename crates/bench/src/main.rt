@@ -1,10 +1,14 @@
 // The bench program (document 01): frames from standard input, a line for each on standard output, and the count of frames last.
 // The input is read as a stream into one buffer that holds any frame whole. Lines are written before the program waits for input.
 use frames::Frame;
-ghost use Prim.Native.Nat.{_+_, _-_, _<_, _≤_, min};
+ghost use Prim.Native.Nat.{ℕ, _+_, _-_, _<_, _≤_, min};
 ghost use mathlib.Core.Path.{_≡_};
+ghost use mathlib.Core.List.{List};
 ghost use lib.ListN.{length, take, drop};
-ghost use Rattle.bench.specs.Held.{Held, HeldAfter, afterFrame};
+ghost use Rattle.lines.specs.Text.{Appended};
+ghost use Rattle.bench.specs.Held.{Held, HeldAfter, atHand, afterFrame};
+ghost use Rattle.bench.specs.Turns.{Took, Wrote, Read, Turned, linesOf, lastText};
+ghost use Rattle.bench.specs.Program.{Finished, Answered};
 
 // The buffers: a frame has at most 65,535 octets, and a line of 1,024 values fewer than 22,600.
 const INPUT: usize = 65536;
@@ -80,7 +84,7 @@ fn write(output: &[u8], lines: usize) -> bool
 // Writes the lines that are held.
 fn flush(output: &[u8], s: State) -> Led
     requires { ⌜ Held s × (length (now output) ≡ 65536) ⌝ }
-    ensures { λ r. ⌜ HeldAfter r ⌝ }
+    ensures { λ r. ⌜ HeldAfter r × Wrote s r ⌝ }
 {
     if !write(output, s.lines) {
         return Led::Lost;
@@ -94,7 +98,7 @@ fn flush(output: &[u8], s: State) -> Led
 // read is the input's end.
 fn more(input: &mut [u8], output: &[u8], s: State) -> Led
     requires { ⌜ Held s × (s .end < s .from + 65535) × (length (now input) ≡ 65536) × (length (now output) ≡ 65536) ⌝ }
-    ensures { λ r. ⌜ HeldAfter r ⌝ }
+    ensures { λ r. ⌜ HeldAfter r × ((came : List ℕ) × Read s (atHand s (now (input .entry))) came (now (input .exit)) r) ⌝ }
 {
     if !write(output, s.lines) {
         return Led::Lost;
@@ -132,7 +136,7 @@ fn whole(
 ) -> State
     requires { ⌜ Held s × (s .from + size ≤ s .end) × (4 ≤ size) × (s .lines ≤ 32768) ⌝ }
     requires { ⌜ (length (now input) ≡ 65536) × (length (now output) ≡ 65536) × (length (now values) ≡ 1024) ⌝ }
-    ensures { λ r. ⌜ Held r ⌝ }
+    ensures { λ r. ⌜ Held r × Took s (atHand s (now (input .entry))) size kind (now (output .entry)) (now (output .exit)) r ⌝ }
 {
     let from = s.from;
     let end = s.end;
@@ -143,7 +147,7 @@ fn whole(
 // One turn: lines are written, a frame's line is put, or input is read.
 fn turn(input: &mut [u8], output: &mut [u8], values: &mut [i64], s: State) -> Led
     requires { ⌜ Held s × (length (now input) ≡ 65536) × (length (now output) ≡ 65536) × (length (now values) ≡ 1024) ⌝ }
-    ensures { λ r. ⌜ HeldAfter r ⌝ }
+    ensures { λ r. ⌜ HeldAfter r × Turned s (now (input .entry)) (now (output .entry)) (now (input .exit)) (now (output .exit)) r ⌝ }
 {
     if MANY < s.lines {
         return flush(output, s);
@@ -158,34 +162,28 @@ fn turn(input: &mut [u8], output: &mut [u8], values: &mut [i64], s: State) -> Le
     }
 }
 
-// The last line, and all that is held.
-fn finish(output: &mut [u8], lines: usize, frames: u64)
-    requires { ⌜ (lines + 28 ≤ length (now output)) ⌝ }
-{
-    let end = frames::put_last(output, lines, frames);
-    write(output, end);
-}
-
-// What a run ended with.
-fn tell(output: &mut [u8], last: Led)
+// Puts the last lines behind those that are held: where a bad frame begins, and how many frames came before.
+fn put_last_lines(output: &mut [u8], last: Led) -> usize
     requires { ⌜ HeldAfter last × (length (now output) ≡ 65536) ⌝ }
+    ensures { λ r. ⌜ Appended (now (output .entry)) (linesOf last) (lastText last) (now (output .exit)) r ⌝ }
+    ensures { λ r. ⌜ r ≤ 65536 ⌝ }
 {
     match last {
-        Led::Next(s) => finish(output, s.lines, s.frames),
-        Led::End(s) => finish(output, s.lines, s.frames),
+        Led::Next(s) => frames::put_last(output, s.lines, s.frames),
+        Led::End(s) => frames::put_last(output, s.lines, s.frames),
         Led::Bad(s) => {
             let lines = frames::put_bad(output, s.lines, s.offset);
-            finish(output, lines, s.frames);
+            frames::put_last(output, lines, s.frames)
         }
-        Led::Lost => {}
+        Led::Lost => 0,
     }
 }
 
 // Turns until the input ends. A proved loop has to end, and nothing says that the input does: so the turns are counted down
-// from a number that no run uses up.
+// from a number that no run uses up, and one that did would answer `Next`.
 fn run(input: &mut [u8], output: &mut [u8], values: &mut [i64]) -> Led
     requires { ⌜ (length (now input) ≡ 65536) × (length (now output) ≡ 65536) × (length (now values) ≡ 1024) ⌝ }
-    ensures { λ r. ⌜ HeldAfter r ⌝ }
+    ensures { λ r. ⌜ HeldAfter r × Finished (now (input .exit)) (now (output .exit)) r ⌝ }
 {
     let mut s = State {
         from: 0,
@@ -203,13 +201,23 @@ fn run(input: &mut [u8], output: &mut [u8], values: &mut [i64]) -> Led
         s = next;
         turns -= 1;
     }
-    Led::End(s)
+    Led::Next(s)
+}
+
+// Answers the input: turns until it ends, and then the last lines. The result is the end of the lines that are left to write.
+fn answer_input(input: &mut [u8], output: &mut [u8], values: &mut [i64]) -> usize
+    requires { ⌜ (length (now input) ≡ 65536) × (length (now output) ≡ 65536) × (length (now values) ≡ 1024) ⌝ }
+    ensures { λ r. ⌜ Answered (now (output .exit)) r ⌝ }
+    ensures { λ r. ⌜ r ≤ 65536 ⌝ }
+{
+    let last = run(input, output, values);
+    put_last_lines(output, last)
 }
 
 fn main() {
     let mut input = [0u8; INPUT];
     let mut output = [0u8; OUTPUT];
     let mut values = [0i64; VALUES];
-    let last = run(&mut input, &mut output, &mut values);
-    tell(&mut output, last);
+    let end = answer_input(&mut input, &mut output, &mut values);
+    write(&output, end);
 }

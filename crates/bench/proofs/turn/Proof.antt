@@ -1,19 +1,15 @@
--- `bench::turn` meets its contract: it is safe. A whole frame lies within the octets at hand, and behind a part of one there is room.
-use Prim.Native.Nat.{ℕ, _-_, _≤_, _<_}
-use mathlib.Core.Path.{_≡_, sym, _∙_}
-use mathlib.Core.List.{List}
+-- `bench::turn` meets its contract. A whole frame lies within the octets at hand, and behind a part of one there is room.
+use Prim.Native.Nat.{_-_, _<_}
+use mathlib.Core.Path.{refl, sym, _∙_}
 use native.Mathlib.Omega.{arith}
 use borrow.Author.Needs.{needs}
 use denote.Ref.{now}
-use lib.ListN.{length, take, drop, length-drop}
-use lib.Seq.{length-take-le}
+use lib.ListN.{length, take, drop}
 use Rattle.frames.proofs.Fronts.{whole-within}
+use Rattle.bench.specs.Turns.{wrote, took, read, stopped}
+use Rattle.bench.proofs.AtHand.{length-atHand}
 use Rattle.bench.proofs.turn.Statement.{statement}
 use Rattle.bench.proofs.turn.Tie as tie
-
--- the octets at hand
-at-hand : (input : List ℕ) (from end : ℕ) → from ≤ end → end ≤ length input → length (take (end - from) (drop from input)) ≡ end - from
-at-hand input from end ordered within = length-take-le (end - from) (drop from input) (omega (arith, length-drop from input))
 
 whole-requires : tie.Need-whole-requires
 whole-requires c κs =
@@ -23,7 +19,7 @@ whole-requires c κs =
     let it = c .before .before .before .before .first2 .given in
     let fits = whole-within (take (s .end - s .from) (drop (s .from) input)) (it .0 .0) (it .0 .1 .0) (sym (c .before .before .before .before .before .before .first .ensures .0) ∙ it .1) in
     let held = start .pre .0 in
-    let many = at-hand input (s .from) (s .end) (held .ordered) (omega (arith, held .within, start .pre .1)) in
+    let many = length-atHand s input held (start .pre .1) in
     ((held, omega (arith, held .ordered, fits .1, many), fits .0, c .before .before .before .before .before .before .before .before .before .if1 .left), (start .pre .1, start .pre .2, start .pre .3))
 
 more-requires : tie.Need-more-requires
@@ -33,8 +29,30 @@ more-requires c κs =
     let input = now (start .args .input) in
     let short : length (take (s .end - s .from) (drop (s .from) input)) < 65535 = c .before .before .before .before .first .ensures .1 (c .before .before .enum-told .given .1) in
     let held = start .pre .0 in
-    let many = at-hand input (s .from) (s .end) (held .ordered) (omega (arith, held .within, start .pre .1)) in
+    let many = length-atHand s input held (start .pre .1) in
     (held, omega (arith, held .ordered, short, many), start .pre .1, start .pre .2)
+
+returns : tie.Need-returns
+returns c = (c .flush .ensures .0, wrote (c .before .before .if1 .taken) refl (c .flush .ensures .1))
+
+returns-2 : tie.Need-returns-2
+returns-2 c =
+    let w = c .before .before .before .whole in
+    let it = c .before .before .before .before .before .before .before .before .first2 .given in
+    let known = c .before .before .before .before .before .before .before .before .before .before in
+    (w .ensures .0, took (known .before .before .before .if1 .left) (it .0 .0) (it .0 .1 .0) (w .result) (sym (known .first .ensures .0) ∙ it .1) refl (w .ensures .1) refl)
+
+returns-3 : tie.Need-returns-3
+returns-3 c =
+    let m = c .before .before .more .ensures in
+    let known = c .before .before .before .before .before in
+    (m .0, read (known .before .before .before .before .before .if1 .left) (sym (known .before .before .first .ensures .0) ∙ known .enum-told .given .1) (m .1 .0) (m .1 .1))
+
+returns-4 : tie.Need-returns-4
+returns-4 c =
+    let known = c .before .before in
+    let left = known .before .before .before .if1 .left in
+    (known .before .before .before .before .before .before .before .pre .0, stopped left (sym (known .first .ensures .0) ∙ c .enum-told2 .given .1) refl refl refl)
 
 pub turn-spec : {M : Type 1} → statement M
 turn-spec =
@@ -42,7 +60,7 @@ turn-spec =
     (tie.spec
     (λ c κs. search needs)
     (λ c. search needs)
-    (λ c. search needs)
+    returns
     (λ c. search needs)
     (λ c. search needs)
     (λ c. search needs)
@@ -55,9 +73,9 @@ turn-spec =
     (λ c. search needs)
     (λ c. search needs)
     (λ c. search needs)
+    returns-2
     (λ c. search needs)
     (λ c. search needs)
+    returns-3
     (λ c. search needs)
-    (λ c. search needs)
-    (λ c. search needs)
-    (λ c. search needs))
+    returns-4)

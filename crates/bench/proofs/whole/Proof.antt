@@ -1,5 +1,6 @@
--- `bench::whole` meets its contract: what is held stays within the buffers.
+-- `bench::whole` meets its contract: the frame's line is put behind the others, and what is held stays within the buffers.
 use native.Mathlib.Omega.{arith}
+use mathlib.Core.Path.{refl}
 use borrow.Author.Needs.{needs}
 use Rattle.bench.proofs.whole.Statement.{statement}
 use Rattle.bench.proofs.whole.Tie as tie
@@ -7,8 +8,11 @@ use Rattle.bench.proofs.whole.Tie as tie
 returns : tie.Need-returns
 returns c =
     let pre = c .before .before .before .before .before .before .before .before .before .before .pre in
-    let line = c .before .before .before .before .put-frame .ensures .1 in
-    rw (c .after .ensures) (record { ordered = pre .0 .1; within = pre .0 .0 .within; room = omega (arith, line, pre .0 .3, pre .1 .2) })
+    let line = c .before .before .before .before .put-frame .ensures in
+    rw (c .after .ensures) (
+      record { ordered = pre .0 .1; within = pre .0 .0 .within; room = omega (arith, line .1, pre .0 .3, pre .1 .2) },
+      record { state = refl; line = rw (pre .1 .2) at (line .0) },
+    )
 
 pub whole-spec : {M : Type 1} → statement M
 whole-spec =

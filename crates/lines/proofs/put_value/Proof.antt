@@ -4,7 +4,8 @@ use native.Mathlib.Omega.{arith}
 use borrow.Author.Needs.{needs}
 use lib.IntN.{natAbs}
 use mir.Facts.{toZ-ofZ}
-use Rattle.lines.proofs.Signs.{below, above, signed-below, signed-above}
+use Rattle.values.proofs.Complement.{negative, positive}
+use Rattle.lines.proofs.Signs.{signed-negative, signed-positive}
 use Rattle.lines.proofs.Texts.{put-both}
 use Rattle.lines.proofs.put_value.Statement.{statement}
 use Rattle.lines.proofs.put_value.Tie as tie
@@ -12,21 +13,21 @@ use Rattle.lines.proofs.put_value.Tie as tie
 returns : tie.Need-returns
 returns c =
     let start = c .before .before .before .before .before .before .before .before .before .before .before .before in
-    let k = below (start .args .value) (start .fits .value) (c .before .before .before .before .before .before .before .before .before .before .if1 .taken) in
+    let k = negative (start .args .value) (start .fits .value) (c .before .before .before .before .before .before .before .before .before .before .if1 .taken) in
     let p = c .before .before .before .before .before .before .before .put-text in
     let m = c .before .before .before .magnitude in
     let n = c .before .before .put-number in
     let size = m .ensures ∙ ap natAbs (toZ-ofZ (start .fits .value)) in
-    (rw (signed-below (start .args .value) k) (rw size at (put-both (p .ensures) (n .ensures .0))), omega (arith, p .ensures .counted, n .ensures .1))
+    (rw (signed-negative (start .args .value) k) (rw size at (put-both (p .ensures) (n .ensures .0))), omega (arith, p .ensures .counted, n .ensures .1))
 
 returns-2 : tie.Need-returns-2
 returns-2 c =
     let start = c .before .before .before .before .before .before .before in
-    let k = above (start .args .value) (start .fits .value) (c .before .before .before .before .before .if1 .left) in
+    let k = positive (start .args .value) (start .fits .value) (c .before .before .before .before .before .if1 .left) in
     let m = c .before .before .before .magnitude2 in
     let n = c .before .before .put-number2 in
     let size = m .ensures ∙ ap natAbs (toZ-ofZ (start .fits .value)) in
-    (rw (signed-above (start .args .value) k) (rw size at (n .ensures .0)), omega (arith, n .ensures .1))
+    (rw (signed-positive (start .args .value) k) (rw size at (n .ensures .0)), omega (arith, n .ensures .1))
 
 pub put-value-spec : {M : Type 1} → statement M
 put-value-spec =

@@ -1,0 +1,3 @@
+mod AtHand
+mod OneText
+mod Runs
