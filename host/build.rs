@@ -1,5 +1,6 @@
 //! Links the static libraries that `rt staticlib` builds from the Rattle crates. They are looked for
-//! in ../target/staticlib, or in the folder that the variable TEYOLXAN_ARCHIVES names.
+//! in ../target/staticlib, or in the folder that the variable TEYOLXAN_ARCHIVES names. With the
+//! feature `asn1c` the benchmark also links the library that `host/bench` builds in target/asn1c.
 
 use std::env;
 use std::path::{Path, PathBuf};
@@ -18,6 +19,24 @@ fn main() {
     for line in instructions(&folder, &names) {
         println!("{line}");
     }
+    if env::var_os("CARGO_FEATURE_ASN1C").is_some() {
+        let library = Path::new(env!("CARGO_MANIFEST_DIR")).join("target/asn1c/libmessages.a");
+        for line in asn1c_instructions(&library) {
+            println!("{line}");
+        }
+    }
+}
+
+/// What Cargo is told of asn1c's library: the benchmark alone links it.
+pub fn asn1c_instructions(library: &Path) -> Vec<String> {
+    let shown = library.display();
+    if !library.is_file() {
+        return vec![format!("cargo::error=no {shown}: run `host/bench`")];
+    }
+    vec![
+        format!("cargo::rerun-if-changed={shown}"),
+        format!("cargo::rustc-link-arg-bin=bench={shown}"),
+    ]
 }
 
 /// What Cargo is told: to link the libraries of these names, or one error where some are missing.

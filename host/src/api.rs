@@ -7,7 +7,7 @@ pub use crate::codec::Answer;
 
 /// Whether the table obeys the rules of document 01.
 pub fn check(table: &[u8]) -> Answer {
-    answer(linked::check(table))
+    answer(|numbers| linked::check(table, numbers))
 }
 
 /// Reads the message into the value slice. Afterwards the slice is the values, then zeros; after a
@@ -25,17 +25,24 @@ pub fn write(table: &[u8], values: &[i64], output: &mut [u8]) -> Answer {
 /// Reads into a slice of octets, eight for a value, little-endian, two's complement. Octets after
 /// the last whole eight are zeroed.
 pub fn read_octets(table: &[u8], message: &[u8], values: &mut [u8]) -> Answer {
-    answer(linked::read(table, message, values))
+    answer(|numbers| linked::read(table, message, values, numbers))
 }
 
 /// Writes a list of octets, eight for a value, little-endian, two's complement. Octets after the
 /// last whole eight are ignored.
 pub fn write_octets(table: &[u8], values: &[u8], output: &mut [u8]) -> Answer {
-    answer(linked::write(table, values, output))
+    answer(|numbers| linked::write(table, values, output, numbers))
+}
+
+/// The answer of a call that tells it in numbers.
+pub(crate) fn answer(call: impl FnOnce(&mut Numbers)) -> Answer {
+    let mut numbers = linked::BEFORE;
+    call(&mut numbers);
+    told(numbers)
 }
 
 /// The answer that these numbers tell.
-pub(crate) fn answer([number, place, values, bits, octets, _]: Numbers) -> Answer {
+pub(crate) fn told([number, place, values, bits, octets, _]: Numbers) -> Answer {
     if number == 0 {
         Answer::Accepted {
             values,

@@ -1,19 +1,35 @@
 //! The codec of the static libraries as a codec under test: the lent calls that a host makes, and
-//! an LM and the elements by name.
+//! the calls by name.
 
-use crate::api::answer;
+use crate::api::told;
 use crate::by_name::{self, Name};
 use crate::codec::{
     value_octets, values_of, Answer, Bits, Call, Codec, Element, Part, Refusal, Taken,
 };
+use crate::guarded::{InPlace, Memory};
 use crate::linked::{self, probe, Numbers};
 
-/// The linked libraries.
-pub struct Archive;
+/// The linked libraries, and where the slices of their calls stand.
+pub struct Archive<M = InPlace>(pub M);
+
+/// The linked libraries, called with slices as they are.
+pub const ARCHIVE: Archive = Archive(InPlace);
+
+/// The calls that the libraries offer.
+pub const CALLS: [Call; 8] = [
+    Call::Check,
+    Call::Read,
+    Call::Write,
+    Call::ReadLm,
+    Call::WriteLm,
+    Call::Element,
+    Call::UserData,
+    Call::Take,
+];
 
 /// The answer that these numbers tell, after a look that they tell nothing else.
 fn exactly(numbers: Numbers) -> Answer {
-    let answer = answer(numbers);
+    let answer = told(numbers);
     let told = match answer {
         Answer::Accepted {
             values,
@@ -26,44 +42,104 @@ fn exactly(numbers: Numbers) -> Answer {
     answer
 }
 
-impl Codec for Archive {
+impl<M: Memory> Archive<M> {
+    /// The numbers that a call writes.
+    fn numbers(&self, call: impl FnOnce(&mut Numbers)) -> Numbers {
+        let mut numbers = linked::BEFORE;
+        self.0.lend(&mut numbers, |lent| {
+            call(lent.try_into().expect("as many numbers as before"));
+        });
+        numbers
+    }
+
+    /// Reads by name. The call takes whole values; the octets after them are not lent to it.
+    pub fn read_by_name(&self, name: Name, message: &[u8], values: &mut [u8]) -> Answer {
+        let mut list = values_of(values);
+        let numbers = self.0.show(message, |message| {
+            self.0.lend(&mut list, |list| {
+                self.numbers(|numbers| probe::read(name, message, list, numbers))
+            })
+        });
+        let (whole, tail) = values.split_at_mut(8 * list.len());
+        whole.copy_from_slice(&value_octets(&list));
+        tail.fill(0);
+        exactly(numbers)
+    }
+
+    /// Writes by name.
+    pub fn write_by_name(&self, name: Name, values: &[u8], output: &mut [u8]) -> Answer {
+        exactly(self.0.show(&values_of(values), |list| {
+            self.0.lend(output, |output| {
+                self.numbers(|numbers| probe::write(name, list, output, numbers))
+            })
+        }))
+    }
+
+    /// Opens a message.
+    fn open(&self, message: &[u8]) -> Result<(), Refusal> {
+        let numbers = self.0.show(message, |message| {
+            self.numbers(|numbers| probe::open(message, numbers))
+        });
+        match exactly(numbers) {
+            Answer::Accepted { .. } => Ok(()),
+            Answer::Refused { number, place } => Err(Refusal { number, place }),
+        }
+    }
+
+    /// Takes bits at a place of an opened message.
+    pub fn take_at(&self, message: &[u8], place: usize, k: u32) -> Result<Bits, Refusal> {
+        let [number, place, bits, rest @ ..] = self.0.show(message, |message| {
+            self.numbers(|numbers| probe::take(message, place, k, numbers))
+        });
+        assert_eq!(rest, [0; 3], "the numbers are no bits");
+        refusal(number, place).map(|()| Bits {
+            number: bits,
+            place,
+        })
+    }
+}
+
+impl<M: Memory> Codec for Archive<M> {
     fn name(&self) -> String {
         "archive".to_string()
     }
 
     fn offers(&self, call: Call) -> bool {
-        match call {
-            Call::Check | Call::Read | Call::Write => true,
-            Call::ReadLm | Call::WriteLm | Call::Element => true,
-            Call::UserData | Call::Take => true,
-            Call::Bench => false,
-        }
+        CALLS.contains(&call)
     }
 
     fn check(&self, table: &[u8]) -> Answer {
-        exactly(linked::check(table))
+        exactly(self.0.show(table, |table| {
+            self.numbers(|numbers| linked::check(table, numbers))
+        }))
     }
 
     fn read(&self, table: &[u8], message: &[u8], values: &mut [u8]) -> Answer {
-        exactly(linked::read(table, message, values))
+        exactly(self.0.show(table, |table| {
+            self.0.show(message, |message| {
+                self.0.lend(values, |values| {
+                    self.numbers(|numbers| linked::read(table, message, values, numbers))
+                })
+            })
+        }))
     }
 
     fn write(&self, table: &[u8], values: &[u8], output: &mut [u8]) -> Answer {
-        exactly(linked::write(table, values, output))
+        exactly(self.0.show(table, |table| {
+            self.0.show(values, |values| {
+                self.0.lend(output, |output| {
+                    self.numbers(|numbers| linked::write(table, values, output, numbers))
+                })
+            })
+        }))
     }
 
-    /// The call by name takes whole values; the octets after them are not lent to it.
     fn read_lm(&self, message: &[u8], values: &mut [u8]) -> Answer {
-        let mut list = values_of(values);
-        let answer = exactly(probe::read(Name::Lm, message, &mut list));
-        let (whole, tail) = values.split_at_mut(8 * list.len());
-        whole.copy_from_slice(&value_octets(&list));
-        tail.fill(0);
-        answer
+        self.read_by_name(Name::Lm, message, values)
     }
 
     fn write_lm(&self, values: &[u8], output: &mut [u8]) -> Answer {
-        exactly(probe::write(Name::Lm, &values_of(values), output))
+        self.write_by_name(Name::Lm, values, output)
     }
 
     /// The call takes 32 bits; what is above them is asked as their highest number, which is
@@ -75,7 +151,9 @@ impl Codec for Archive {
 
     /// The part itself is as long as its place says, and empty on a refusal.
     fn user_data(&self, message: &[u8]) -> Result<Part, Refusal> {
-        let [number, place, start, length, part, rest] = probe::user_data(message);
+        let [number, place, start, length, part, rest] = self.0.show(message, |message| {
+            self.numbers(|numbers| probe::user_data(message, numbers))
+        });
         assert_eq!(
             [part, rest],
             [length, 0],
@@ -86,23 +164,17 @@ impl Codec for Archive {
 
     /// A width above 32 bits is asked as the highest number, which is refused too.
     fn take(&self, message: &[u8], widths: &[u64]) -> Taken {
-        let opened = match exactly(probe::open(message)) {
-            Answer::Accepted { .. } => Ok(()),
-            Answer::Refused { number, place } => Err(Refusal { number, place }),
-        };
         let mut at = 0;
-        let steps = widths.iter().map(|&width| {
+        let mut step = |&width: &u64| {
             let k = u32::try_from(width).unwrap_or(u32::MAX);
-            let [number, place, bits, ..] = probe::take(message, at, k);
+            let step = self.take_at(message, at, k);
+            let (Ok(Bits { place, .. }) | Err(Refusal { place, .. })) = step;
             at = usize::try_from(place).expect("a place in memory");
-            refusal(number, place).map(|()| Bits {
-                number: bits,
-                place,
-            })
-        });
+            step
+        };
         Taken {
-            opened,
-            steps: steps.collect(),
+            opened: self.open(message),
+            steps: widths.iter().map(&mut step).collect(),
         }
     }
 }

@@ -1,19 +1,33 @@
 //! The calls by name, through the library that is built for tests. A host lends its tables.
 
 use crate::api::answer;
-use crate::codec::{Answer, Element};
-use crate::linked::probe;
+use crate::codec::{Answer, Bits, Element, Refusal};
+use crate::linked::{probe, BEFORE};
 
 pub use crate::linked::probe::Name;
 
 /// Reads the message into the value slice.
 pub fn read(name: Name, message: &[u8], values: &mut [i64]) -> Answer {
-    answer(probe::read(name, message, values))
+    answer(|numbers| probe::read(name, message, values, numbers))
 }
 
 /// Writes the list into the output.
 pub fn write(name: Name, values: &[i64], output: &mut [u8]) -> Answer {
-    answer(probe::write(name, values, output))
+    answer(|numbers| probe::write(name, values, output, numbers))
+}
+
+/// Takes k bits from an opened message at a place.
+#[inline]
+pub fn take(message: &[u8], place: usize, k: u32) -> Result<Bits, Refusal> {
+    let mut numbers = BEFORE;
+    probe::take(message, place, k, &mut numbers);
+    match numbers {
+        [0, place, number, ..] => Ok(Bits { number, place }),
+        [number, place, ..] => Err(Refusal {
+            number: number as u32,
+            place,
+        }),
+    }
 }
 
 /// Where the element with this ID belongs, seen from this home.

@@ -70,9 +70,20 @@ fn compare_drawn(
     stats: &mut Stats,
 ) -> Result<(), String> {
     let case = draw(&mut Random::for_case(seed, number), calls);
+    compare_one(left, right, &case, stats)
+        .map_err(|report| format!("seed {seed}, case {number}: {report}"))
+}
+
+/// Compares two codecs on a case that both offer. The error is the input and both outcomes.
+pub fn compare_one(
+    left: &dyn Codec,
+    right: &dyn Codec,
+    case: &Case,
+    stats: &mut Stats,
+) -> Result<(), String> {
     let outcomes = (case.run(left), case.run(right));
     if outcomes.0 != outcomes.1 {
-        let mut report = format!("seed {seed}, case {number}: {}", short(case_text(&case)));
+        let mut report = short(case_text(case));
         for (codec, outcome) in [(left, &outcomes.0), (right, &outcomes.1)] {
             report += &format!("\n  {}: {}", codec.name(), short(outcome_text(outcome)));
         }
@@ -96,7 +107,7 @@ fn compare_drawn(
 }
 
 /// A text cut where it gets too long to be read; the case can be drawn again from its number.
-fn short(mut text: String) -> String {
+pub fn short(mut text: String) -> String {
     const MOST: usize = 4_000;
     if text.len() > MOST {
         let length = text.len();

@@ -3,9 +3,10 @@
 //! | Module | What it holds |
 //! |---|---|
 //! | `codec` | answers, and the trait `Codec` that every codec under test implements |
-//! | `linked` | the calls of the static libraries: the one file with `unsafe` |
+//! | `linked` | the calls of the static libraries |
 //! | `api` | what a host calls: check, read and write under a lent table |
 //! | `by_name` | the calls by name, for tests |
+//! | `guarded` | memory between guards, where a call that leaves its slices dies |
 //! | `archive` | the static libraries as a codec under test |
 //! | `assemble` | a small assembler for tables |
 //! | `builtin` | the built-in tables, assembled as docs/MESSAGES.md lists their rows |
@@ -13,8 +14,12 @@
 //! | `mutants` | the reference with one planted fault each |
 //! | `case` | one call with its input, and the outcome of running it on a codec |
 //! | `vectors` | the text format of the case files in `vectors/`, and their runner |
+//! | `outside` | lists with the octets that UPER tools of others gave for them |
 //! | `random` | a seeded generator of tables, lists of values and messages |
 //! | `compare` | two codecs on many drawn cases, compared to the last octet |
+//! | `settings` | numbers from the environment, to repeat a test or to make it longer |
+//!
+//! Only `linked`, which a host needs, and `guarded`, for tests, have `unsafe` code.
 
 #![deny(unsafe_code)]
 
@@ -28,9 +33,14 @@ pub mod by_name;
 pub mod case;
 pub mod codec;
 pub mod compare;
+#[cfg(feature = "probe")]
+#[allow(unsafe_code)]
+pub mod guarded;
 #[allow(unsafe_code)]
 mod linked;
 pub mod mutants;
+pub mod outside;
 pub mod random;
 pub mod reference;
+pub mod settings;
 pub mod vectors;

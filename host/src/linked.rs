@@ -1,4 +1,4 @@
-//! The calls of the static libraries, made safe: the one file with `unsafe`.
+//! The calls of the static libraries, made safe. Beside `guarded` the one file with `unsafe`.
 //!
 //! A slice is given as a pointer to its first element and the count of its elements, the six
 //! numbers of the answer as one pointer. The calls keep no pointer, hold no state, and are proved
@@ -14,7 +14,7 @@ use std::slice;
 pub type Numbers = [u64; 6];
 
 /// What the numbers hold before a call, so that one which is not written shows.
-const BEFORE: Numbers = [u64::MAX; 6];
+pub const BEFORE: Numbers = [u64::MAX; 6];
 
 extern "C" {
     fn teyolxan_check(table: *const u8, table_length: usize, numbers: *mut Numbers);
@@ -40,17 +40,14 @@ extern "C" {
     );
 }
 
-pub fn check(table: &[u8]) -> Numbers {
-    let mut numbers = BEFORE;
-    // SAFETY: pointer and length are those of a live slice, and the numbers are ours to write.
-    unsafe { teyolxan_check(table.as_ptr(), table.len(), &mut numbers) };
-    numbers
+pub fn check(table: &[u8], numbers: &mut Numbers) {
+    // SAFETY: pointer and length are those of a live slice, and the numbers are lent to us alone.
+    unsafe { teyolxan_check(table.as_ptr(), table.len(), numbers) };
 }
 
-pub fn read(table: &[u8], message: &[u8], values: &mut [u8]) -> Numbers {
-    let mut numbers = BEFORE;
-    // SAFETY: pointers and lengths are those of live slices; only `values`, which is lent to us
-    // alone, and the numbers are written.
+pub fn read(table: &[u8], message: &[u8], values: &mut [u8], numbers: &mut Numbers) {
+    // SAFETY: pointers and lengths are those of live slices; only `values` and the numbers,
+    // which are lent to us alone, are written.
     unsafe {
         teyolxan_read(
             table.as_ptr(),
@@ -59,16 +56,14 @@ pub fn read(table: &[u8], message: &[u8], values: &mut [u8]) -> Numbers {
             message.len(),
             values.as_mut_ptr(),
             values.len(),
-            &mut numbers,
+            numbers,
         )
     };
-    numbers
 }
 
-pub fn write(table: &[u8], values: &[u8], output: &mut [u8]) -> Numbers {
-    let mut numbers = BEFORE;
-    // SAFETY: pointers and lengths are those of live slices; only `output`, which is lent to us
-    // alone, and the numbers are written.
+pub fn write(table: &[u8], values: &[u8], output: &mut [u8], numbers: &mut Numbers) {
+    // SAFETY: pointers and lengths are those of live slices; only `output` and the numbers,
+    // which are lent to us alone, are written.
     unsafe {
         teyolxan_write(
             table.as_ptr(),
@@ -77,10 +72,9 @@ pub fn write(table: &[u8], values: &[u8], output: &mut [u8]) -> Numbers {
             values.len(),
             output.as_mut_ptr(),
             output.len(),
-            &mut numbers,
+            numbers,
         )
     };
-    numbers
 }
 
 /// A list's octets, in place.
@@ -99,7 +93,7 @@ pub fn octets_mut(values: &mut [i64]) -> &mut [u8] {
 /// The calls by name, from the library that is built for tests.
 #[cfg(feature = "probe")]
 pub mod probe {
-    use super::{Numbers, BEFORE};
+    use super::Numbers;
 
     extern "C" {
         fn probe_read_lm(
@@ -173,46 +167,42 @@ pub mod probe {
         Srm,
     }
 
-    pub fn read(name: Name, message: &[u8], values: &mut [i64]) -> Numbers {
+    pub fn read(name: Name, message: &[u8], values: &mut [i64], numbers: &mut Numbers) {
         let call = match name {
             Name::Lm => probe_read_lm,
             Name::Sam => probe_read_sam,
             Name::Srm => probe_read_srm,
         };
-        let mut numbers = BEFORE;
-        // SAFETY: pointers and lengths are those of live slices; only `values`, which is lent to us
-        // alone, and the numbers are written.
+        // SAFETY: pointers and lengths are those of live slices; only `values` and the numbers,
+        // which are lent to us alone, are written.
         unsafe {
             call(
                 message.as_ptr(),
                 message.len(),
                 values.as_mut_ptr(),
                 values.len(),
-                &mut numbers,
+                numbers,
             )
         };
-        numbers
     }
 
-    pub fn write(name: Name, values: &[i64], output: &mut [u8]) -> Numbers {
+    pub fn write(name: Name, values: &[i64], output: &mut [u8], numbers: &mut Numbers) {
         let call = match name {
             Name::Lm => probe_write_lm,
             Name::Sam => probe_write_sam,
             Name::Srm => probe_write_srm,
         };
-        let mut numbers = BEFORE;
-        // SAFETY: pointers and lengths are those of live slices; only `output`, which is lent to us
-        // alone, and the numbers are written.
+        // SAFETY: pointers and lengths are those of live slices; only `output` and the numbers,
+        // which are lent to us alone, are written.
         unsafe {
             call(
                 values.as_ptr(),
                 values.len(),
                 output.as_mut_ptr(),
                 output.len(),
-                &mut numbers,
+                numbers,
             )
         };
-        numbers
     }
 
     pub fn element(id: u32, home: u32) -> u32 {
@@ -220,24 +210,19 @@ pub mod probe {
         unsafe { probe_element(id, home) }
     }
 
-    pub fn user_data(message: &[u8]) -> Numbers {
-        let mut numbers = BEFORE;
+    pub fn user_data(message: &[u8], numbers: &mut Numbers) {
         // SAFETY: pointer and length are those of a live slice; only the numbers are written.
-        unsafe { probe_user_data(message.as_ptr(), message.len(), &mut numbers) };
-        numbers
+        unsafe { probe_user_data(message.as_ptr(), message.len(), numbers) };
     }
 
-    pub fn open(message: &[u8]) -> Numbers {
-        let mut numbers = BEFORE;
+    pub fn open(message: &[u8], numbers: &mut Numbers) {
         // SAFETY: as in `user_data`.
-        unsafe { probe_open(message.as_ptr(), message.len(), &mut numbers) };
-        numbers
+        unsafe { probe_open(message.as_ptr(), message.len(), numbers) };
     }
 
-    pub fn take(message: &[u8], place: usize, k: u32) -> Numbers {
-        let mut numbers = BEFORE;
+    #[inline]
+    pub fn take(message: &[u8], place: usize, k: u32, numbers: &mut Numbers) {
         // SAFETY: as in `user_data`; any place and any k may be asked.
-        unsafe { probe_take(message.as_ptr(), message.len(), place, k, &mut numbers) };
-        numbers
+        unsafe { probe_take(message.as_ptr(), message.len(), place, k, numbers) };
     }
 }

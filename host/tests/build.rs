@@ -35,3 +35,22 @@ fn a_library_that_is_there_is_linked() {
     assert!(lines.contains(&"cargo::rustc-link-lib=static=teyolxan".to_string()));
     assert!(lines.iter().all(|line| !line.contains("error")));
 }
+
+#[test]
+fn the_library_of_asn1c_is_an_error_or_linked() {
+    let folder = Path::new(env!("CARGO_TARGET_TMPDIR")).join("asn1c");
+    fs::create_dir_all(&folder).expect("a folder");
+    let missing = folder.join("missing.a");
+    assert_eq!(
+        script::asn1c_instructions(&missing),
+        [format!(
+            "cargo::error=no {}: run `host/bench`",
+            missing.display()
+        )]
+    );
+    let library = folder.join("libmessages.a");
+    fs::write(&library, "").expect("a file");
+    let shown = library.display();
+    assert!(script::asn1c_instructions(&library)
+        .contains(&format!("cargo::rustc-link-arg-bin=bench={shown}")));
+}

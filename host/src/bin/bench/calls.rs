@@ -1,0 +1,305 @@
+//! The calls that are measured, each tried once before: what it gives has to be right to the last
+//! value, octet and bit.
+
+use std::hint::black_box;
+
+use teyolxan_host::api;
+use teyolxan_host::by_name::{self, Name};
+use teyolxan_host::codec::Answer;
+use teyolxan_host::reference::{self, Opened, Passed};
+
+#[cfg(feature = "asn1c")]
+use crate::asn1c;
+use crate::subjects::{Job, Message, Subject};
+
+/// Who makes the call. A lent table is checked in the call, any other is known beforehand.
+#[derive(Clone, Copy, Debug, PartialEq, Eq)]
+pub enum Way {
+    Ours,
+    OursLent,
+    Rust,
+    RustLent,
+    Asn1c,
+}
+
+impl Way {
+    /// The columns of a job's table.
+    pub fn of(job: Job) -> Vec<Way> {
+        let mut ways = match job {
+            Job::Read | Job::Write => vec![Way::Ours, Way::OursLent, Way::Rust, Way::RustLent],
+            Job::Take | Job::Check => vec![Way::Ours, Way::Rust],
+        };
+        if cfg!(feature = "asn1c") && job != Job::Check {
+            ways.push(Way::Asn1c);
+        }
+        ways
+    }
+
+    pub fn title(self, job: Job) -> &'static str {
+        match (self, job) {
+            (Way::Ours, Job::Read | Job::Write) => "ours by name",
+            (Way::Rust, Job::Read | Job::Write) => "Rust by name",
+            (Way::Ours, _) => "ours",
+            (Way::Rust, _) => "Rust",
+            (Way::OursLent, _) => "ours lent",
+            (Way::RustLent, _) => "Rust lent",
+            (Way::Asn1c, _) => "asn1c",
+        }
+    }
+}
+
+/// Makes a call so many times.
+pub type Work = Box<dyn FnMut(u64)>;
+
+/// The call that a way makes of a row, or nothing where it has none.
+pub fn prepare(job: Job, subject: &Subject, way: Way) -> Option<Work> {
+    match (job, subject) {
+        (Job::Read, Subject::Message(message)) => read(message, way),
+        (Job::Write, Subject::Message(message)) => write(message, way),
+        (Job::Take, Subject::Bits(width)) => take(*width, way),
+        (Job::Check, Subject::Table { table, .. }) => check(table.clone(), way),
+        _ => None,
+    }
+}
+
+fn repeated<T>(mut call: impl FnMut() -> T + 'static) -> Work {
+    Box::new(move |count| {
+        for _ in 0..count {
+            black_box(call());
+        }
+    })
+}
+
+/// A table that lives as long as the program.
+fn passed(table: &[u8]) -> Passed<'static> {
+    Passed::new(table.to_vec().leak()).expect("a built-in table passes the check")
+}
+
+// ---- Reading ---------------------------------------------------------------------------------
+
+fn read(message: &Message, way: Way) -> Option<Work> {
+    let (name, table) = (message.name, message.table.clone());
+    match way {
+        Way::Ours => reading(message, move |octets, values| {
+            by_name::read(name, octets, values)
+        }),
+        Way::OursLent => reading(message, move |octets, values| {
+            api::read(black_box(&table), octets, values)
+        }),
+        Way::Rust if name == Name::Lm => reading(message, reference::read_lm_into),
+        Way::Rust => {
+            let table = passed(&table);
+            reading(message, move |octets, values| {
+                table.read_into(octets, values)
+            })
+        }
+        Way::RustLent => reading(message, move |octets, values| {
+            reference::read_into(black_box(&table), octets, values)
+        }),
+        Way::Asn1c => asn1c_reading(message),
+    }
+}
+
+fn reading(
+    message: &Message,
+    call: impl Fn(&[u8], &mut [i64]) -> Answer + 'static,
+) -> Option<Work> {
+    let octets = message.octets.clone();
+    let mut values = vec![-1; message.room];
+    let answer = call(&octets, &mut values);
+    let (kept, rest) = values.split_at(message.values.len());
+    let right = matches!(answer, Answer::Accepted { values, .. } if values == kept.len() as u64)
+        && kept == message.values
+        && rest.iter().all(|&value| value == 0);
+    assert!(right, "{}: {answer:?}", message.title);
+    Some(repeated(move || {
+        call(black_box(&octets), black_box(&mut values))
+    }))
+}
+
+// ---- Writing ---------------------------------------------------------------------------------
+
+fn write(message: &Message, way: Way) -> Option<Work> {
+    let (name, table) = (message.name, message.table.clone());
+    match way {
+        Way::Ours => writing(message, move |values, output| {
+            by_name::write(name, values, output)
+        }),
+        Way::OursLent => writing(message, move |values, output| {
+            api::write(black_box(&table), values, output)
+        }),
+        Way::Rust if name == Name::Lm => writing(message, reference::write_lm_into),
+        Way::Rust => {
+            let table = passed(&table);
+            writing(message, move |values, output| {
+                table.write_into(values, output)
+            })
+        }
+        Way::RustLent => writing(message, move |values, output| {
+            reference::write_into(black_box(&table), values, output)
+        }),
+        Way::Asn1c => asn1c_writing(message),
+    }
+}
+
+fn writing(
+    message: &Message,
+    call: impl Fn(&[i64], &mut [u8]) -> Answer + 'static,
+) -> Option<Work> {
+    let values = message.values.clone();
+    let mut output = vec![0xFF; message.output];
+    let answer = call(&values, &mut output);
+    let (written, rest) = output.split_at(message.octets.len());
+    let right = matches!(answer, Answer::Accepted { octets, .. } if octets == written.len() as u64)
+        && written == message.octets
+        && rest.iter().all(|&octet| octet == 0);
+    assert!(right, "{}: {answer:?}", message.title);
+    Some(repeated(move || {
+        call(black_box(&values), black_box(&mut output))
+    }))
+}
+
+// ---- Bits ------------------------------------------------------------------------------------
+
+/// The bits are taken one after another, from a place inside an octet on; those that are counted
+/// don't reach the end.
+const START: usize = 3;
+const TRIED: usize = 200;
+static BITS: [u8; 1_024] = pattern();
+/// From here on a fetch starts again.
+const LAST: usize = 8 * BITS.len() - 32;
+
+const fn pattern() -> [u8; 1_024] {
+    let mut octets = [0; 1_024];
+    let mut at = 0;
+    while at < octets.len() {
+        octets[at] = (at * 167 + at / 256 * 29 + 91) as u8;
+        at += 1;
+    }
+    octets
+}
+
+/// The number in the bits, bit by bit.
+fn bits_at(place: usize, width: u32) -> u64 {
+    (place..place + width as usize).fold(0, |number, at| {
+        number << 1 | u64::from(BITS[at / 8] >> (7 - at % 8) & 1)
+    })
+}
+
+fn take(width: u32, way: Way) -> Option<Work> {
+    match way {
+        Way::Ours => {
+            let mut place = START;
+            taking(width, move || {
+                if place > LAST {
+                    place = START;
+                }
+                let bits = by_name::take(black_box(&BITS), place, width).expect("bits");
+                place = bits.place as usize;
+                bits.number
+            })
+        }
+        Way::Rust => {
+            let open = || {
+                let mut opened = Opened::new(black_box(&BITS)).0;
+                opened.take(START as u64).expect("bits");
+                opened
+            };
+            let mut opened = open();
+            taking(width, move || {
+                if opened.place() > LAST {
+                    opened = open();
+                }
+                opened.take(u64::from(width)).expect("bits")
+            })
+        }
+        Way::Asn1c => asn1c_taking(width),
+        Way::OursLent | Way::RustLent => None,
+    }
+}
+
+fn taking(width: u32, mut call: impl FnMut() -> u64 + 'static) -> Option<Work> {
+    for turn in 0..TRIED {
+        let place = START + turn * width as usize;
+        assert_eq!(call(), bits_at(place, width), "{width} bits at {place}");
+    }
+    Some(repeated(call))
+}
+
+// ---- Tables ----------------------------------------------------------------------------------
+
+fn check(table: Vec<u8>, way: Way) -> Option<Work> {
+    let call = match way {
+        Way::Ours => api::check,
+        Way::Rust => reference::check,
+        _ => return None,
+    };
+    assert_eq!(call(&table), Answer::PASSED);
+    Some(repeated(move || call(black_box(&table))))
+}
+
+// ---- asn1c -----------------------------------------------------------------------------------
+
+/// A structure is built on the heap and freed.
+#[cfg(feature = "asn1c")]
+fn asn1c_reading(message: &Message) -> Option<Work> {
+    asn1c_tried(message);
+    let (name, octets) = (message.name, message.octets.clone());
+    Some(repeated(move || {
+        asn1c::Structure::decode(name, black_box(&octets)).is_some()
+    }))
+}
+
+/// A structure that was decoded before.
+#[cfg(feature = "asn1c")]
+fn asn1c_writing(message: &Message) -> Option<Work> {
+    let structure = asn1c_tried(message);
+    let mut output = vec![0; message.output];
+    Some(repeated(move || structure.encode(black_box(&mut output))))
+}
+
+/// Fails where asn1c's code does not give the same octets back.
+#[cfg(feature = "asn1c")]
+fn asn1c_tried(message: &Message) -> asn1c::Structure {
+    let title = message.title;
+    let structure = asn1c::Structure::decode(message.name, &message.octets)
+        .unwrap_or_else(|| panic!("asn1c does not read {title}"));
+    let mut output = vec![0; message.output];
+    let size = structure
+        .encode(&mut output)
+        .unwrap_or_else(|| panic!("asn1c does not write {title}"));
+    assert!(
+        output[..size] == message.octets,
+        "asn1c writes {title} otherwise"
+    );
+    structure
+}
+
+#[cfg(feature = "asn1c")]
+fn asn1c_taking(width: u32) -> Option<Work> {
+    let mut opened = asn1c::Opened::new(&BITS, START);
+    let mut place = START;
+    taking(width, move || {
+        if place > LAST {
+            opened = asn1c::Opened::new(&BITS, START);
+            place = START;
+        }
+        place += width as usize;
+        opened.take(width).expect("bits")
+    })
+}
+
+#[cfg(not(feature = "asn1c"))]
+fn asn1c_reading(_message: &Message) -> Option<Work> {
+    None
+}
+
+#[cfg(not(feature = "asn1c"))]
+fn asn1c_writing(_message: &Message) -> Option<Work> {
+    None
+}
+
+#[cfg(not(feature = "asn1c"))]
+fn asn1c_taking(_width: u32) -> Option<Work> {
+    None
+}
