@@ -1,20 +1,9 @@
 /* A host: checks a table, reads a message under it, writes the values back, and meets two refusals. */
 
 #include <inttypes.h>
-#include <stddef.h>
-#include <stdint.h>
 #include <stdio.h>
 
-void teyolxan_check(const uint8_t *table, size_t table_length, uint64_t numbers[6]);
-void teyolxan_read(const uint8_t *table, size_t table_length,
-                   const uint8_t *message, size_t message_length,
-                   uint8_t *values, size_t values_length, uint64_t numbers[6]);
-void teyolxan_write(const uint8_t *table, size_t table_length,
-                    const uint8_t *values, size_t values_length,
-                    uint8_t *output, size_t output_length, uint64_t numbers[6]);
-
-/* What the six numbers are. */
-enum { NUMBER, PLACE, VALUES, BITS, OCTETS, KEPT };
+#include "teyolxan.h"
 
 /* The notice of a car park, from TABLES.md: each row with its offset. */
 static const uint8_t table[128] = {
@@ -46,20 +35,20 @@ int main(void)
     size_t count = 0;
 
     teyolxan_check(table, sizeof table, numbers);
-    if (numbers[NUMBER] == 0)
+    if (numbers[TEYOLXAN_NUMBER] == 0)
         printf("table: passed\n");
     else
-        printf("table: refused %" PRIu64 " at %" PRIu64 "\n", numbers[NUMBER], numbers[PLACE]);
+        printf("table: refused %" PRIu64 " at %" PRIu64 "\n", numbers[TEYOLXAN_NUMBER], numbers[TEYOLXAN_PLACE]);
 
     /* Cut, then whole. What the values leave of their slice is zeroed. */
     for (size_t length = 12; length <= 13; length++) {
         teyolxan_read(table, sizeof table, message, length, (uint8_t *)values, sizeof values, numbers);
-        if (numbers[NUMBER] != 0) {
-            printf("read: refused %" PRIu64 " at bit %" PRIu64 "\n", numbers[NUMBER], numbers[PLACE]);
+        if (numbers[TEYOLXAN_NUMBER] != 0) {
+            printf("read: refused %" PRIu64 " at bit %" PRIu64 "\n", numbers[TEYOLXAN_NUMBER], numbers[TEYOLXAN_PLACE]);
             continue;
         }
-        count = numbers[VALUES];
-        printf("read: %" PRIu64 " bits, values", numbers[BITS]);
+        count = numbers[TEYOLXAN_VALUES];
+        printf("read: %" PRIu64 " bits, values", numbers[TEYOLXAN_BITS]);
         for (size_t at = 0; at < count; at++)
             printf(" %" PRId64, values[at]);
         printf("\n");
@@ -69,12 +58,12 @@ int main(void)
     for (size_t i = 0; i < 2; i++) {
         values[2] = temperatures[i];
         teyolxan_write(table, sizeof table, (const uint8_t *)values, 8 * count, output, sizeof output, numbers);
-        if (numbers[NUMBER] != 0) {
-            printf("write: refused %" PRIu64 " at value %" PRIu64 "\n", numbers[NUMBER], numbers[PLACE]);
+        if (numbers[TEYOLXAN_NUMBER] != 0) {
+            printf("write: refused %" PRIu64 " at value %" PRIu64 "\n", numbers[TEYOLXAN_NUMBER], numbers[TEYOLXAN_PLACE]);
             continue;
         }
         printf("write: octets");
-        for (size_t at = 0; at < numbers[OCTETS]; at++)
+        for (size_t at = 0; at < numbers[TEYOLXAN_OCTETS]; at++)
             printf(" %02X", output[at]);
         printf("\n");
     }

@@ -29,13 +29,14 @@ fn the_examples_are_the_files() {
     assert_eq!(last_block("c"), include_str!("../examples/host.c"));
 }
 
-/// The declarations stand twice: for themselves, and in the example.
+/// The declarations stand twice: for themselves, and in the header.
 #[test]
-fn the_declarations_are_those_of_the_example() {
+fn the_declarations_are_those_of_the_header() {
     let declarations = blocks("c")[0].split("\n\n");
     let mut count = 0;
     for declaration in declarations {
-        assert!(last_block("c").contains(declaration), "{declaration}");
+        let header = include_str!("../include/teyolxan.h");
+        assert!(header.contains(declaration), "{declaration}");
         count += 1;
     }
     assert_eq!(count, 3);
@@ -81,6 +82,7 @@ fn the_c_example_prints_what_is_said() {
             "-Werror",
             "-O2",
         ])
+        .arg(concat!("-I", env!("CARGO_MANIFEST_DIR"), "/include"))
         .arg(concat!(env!("CARGO_MANIFEST_DIR"), "/examples/host.c"))
         .arg(concat!(env!("TEYOLXAN_ARCHIVES_FOLDER"), "/libteyolxan.a"))
         .arg("-o")
