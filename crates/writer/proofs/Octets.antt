@@ -14,8 +14,8 @@ use Rattle.bits.proofs.Bits.{length-bitsOf}
 use Rattle.item.specs.Code.{Code, number, allows, valueBits}
 use Rattle.runs.specs.Runs.{isOctet, octetOf, octetBits, Written}
 use Rattle.runs.proofs.Putting.{length-octetBits}
-use Rattle.encoding.specs.Items.{Items, stop, ask, _then_, one, times}
-use Rattle.encoding.specs.Spell.{spelled, spell, following}
+use Rattle.encoding.specs.Items.{Items, ask, _then_, one, times}
+use Rattle.encoding.specs.Spell.{spelled, spell}
 use Rattle.encoding.proofs.Spells.{spell-stop, spell-put}
 use Rattle.parts.proofs.Runs.{run-first}
 use Rattle.writer.specs.declared.Step.the-variants.{Past}

@@ -10,14 +10,8 @@ use denote.Ref.{now}
 use Rattle.bits.proofs.Window.{number-in-pair}
 use Rattle.bits.proofs.octet_at.Statement.{statement}
 use Rattle.bits.proofs.octet_at.Tie as tie
-use Rattle.bits.proofs.octet_at.Reads as reads
-use Rattle.bits.proofs.octet_at.Lts as lts
-use Rattle.bits.proofs.word.octet_inside.Reads as octet-inside-reads
 
 -- src/lib.rt:120:9
-octet-inside-requires : tie.Need-octet-inside-requires
-octet-inside-requires c κs = search needs
-
 -- src/lib.rt:122:9
 returns : tie.Need-returns
 returns c =
@@ -35,33 +29,12 @@ returns c =
     )
 
 -- src/lib.rt:124:46
-add-octet-inside : tie.Need-add-octet-inside
-add-octet-inside c = search needs
-
 -- src/lib.rt:124:9
-octet-inside-requires-2 : tie.Need-octet-inside-requires-2
-octet-inside-requires-2 c κs = search needs
-
 -- src/lib.rt:125:7
-mul-result : tie.Need-mul-result
-mul-result c = search needs
-
 -- src/lib.rt:125:7
-add-result : tie.Need-add-result
-add-result c = search needs
-
 -- src/lib.rt:125:33
-sub-result : tie.Need-sub-result
-sub-result c = search needs
-
 -- src/lib.rt:125:33
-cast-result : tie.Need-cast-result
-cast-result c = search needs
-
 -- src/lib.rt:125:6
-shr-result : tie.Need-shr-result
-shr-result c = search needs
-
 -- src/lib.rt:116:1
 returns-2 : tie.Need-returns-2
 returns-2 c =
@@ -77,13 +50,13 @@ pub octet-at-spec : {M : Type 1} → statement M
 octet-at-spec =
     tie.close
     (tie.spec
-    octet-inside-requires
+    (λ c κs. search needs)
     returns
-    add-octet-inside
-    octet-inside-requires-2
-    mul-result
-    add-result
-    sub-result
-    cast-result
-    shr-result
+    (λ c. search needs)
+    (λ c κs. search needs)
+    (λ c. search needs)
+    (λ c. search needs)
+    (λ c. search needs)
+    (λ c. search needs)
+    (λ c. search needs)
     returns-2)

@@ -2,7 +2,6 @@
 use borrow.Author.Needs.{needs}
 use native.Mathlib.Omega.{arith}
 use lib.Bits.{and-le-l}
-use mathlib.Core.Path.{_≡_}
 use Rattle.bits.proofs.Parts.{placed-fits, placed-masked}
 use Rattle.bits.proofs.replace.Statement.{statement}
 use Rattle.bits.proofs.replace.Tie as tie

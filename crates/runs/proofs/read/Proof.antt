@@ -12,30 +12,6 @@ use Rattle.runs.specs.Runs.{octetValues}
 use borrow.Author.Needs.{needs}
 use Rattle.runs.proofs.read.Statement.{statement}
 use Rattle.runs.proofs.read.Tie as tie
-use Rattle.runs.proofs.read.Reads as reads
-use Rattle.runs.proofs.read.Lts as lts
-use Rattle.bits.proofs.BitPlace.bits_into_octet.Reads as bits-into-octet-reads
-use Rattle.bits.proofs.BitPlace.octets_before.Reads as octets-before-reads
-use Rattle.runs.proofs.read_numbers.Reads as read-numbers-reads
-use Rattle.runs.proofs.read_packed.Reads as read-packed-reads
-
-octets-before-requires : tie.Need-octets-before-requires
-octets-before-requires c κs = search needs
-
-bits-into-octet-requires : tie.Need-bits-into-octet-requires
-bits-into-octet-requires c κs = search needs
-
-read-numbers-requires : tie.Need-read-numbers-requires
-read-numbers-requires c κs = search needs
-
-read-packed-requires : tie.Need-read-packed-requires
-read-packed-requires c κs = search needs
-
-same-length : tie.Need-same-length
-same-length c = search needs
-
-same-length-2 : tie.Need-same-length-2
-same-length-2 c = search needs
 
 returns : tie.Need-returns
 returns c =
@@ -52,10 +28,10 @@ pub read-spec : {M : Type 1} → statement M
 read-spec =
     tie.close
     (tie.spec
-    octets-before-requires
-    bits-into-octet-requires
-    read-numbers-requires
-    read-packed-requires
-    same-length
-    same-length-2
+    (λ c κs. search needs)
+    (λ c κs. search needs)
+    (λ c κs. search needs)
+    (λ c κs. search needs)
+    (λ c. search needs)
+    (λ c. search needs)
     returns)

@@ -1,11 +1,10 @@
 -- `runs::read_packed` meets its contract. Invariant: what is left of the run, kept in what stands now.
 use Prim.Native.Nat.{ℕ, _+_, _-_, _*_}
-use mathlib.Core.Path.{_≡_, sym, ap, _∙_}
-use mathlib.Core.List.{List}
+use mathlib.Core.Path.{_≡_, ap, _∙_}
 use native.Mathlib.Omega.{arith}
 use denote.Ref.{now}
 use lib.IntN.{pos}
-use lib.ListN.{length, take, drop}
+use lib.ListN.{take, drop}
 use mir.Syntax.{w64}
 use mir.Val.{toZ}
 use mir.Facts.{toZ-pos}
@@ -16,11 +15,6 @@ use Rattle.runs.proofs.Copying.{Copying, copying-none, copying-one, cop
 use borrow.Author.Needs.{needs}
 use Rattle.runs.proofs.read_packed.Statement.{statement}
 use Rattle.runs.proofs.read_packed.Tie as tie
-use Rattle.runs.proofs.read_packed.Reads as reads
-use Rattle.runs.proofs.read_packed.Lts as lts
-use Rattle.bits.proofs.octet_at.Reads as octet-at-reads
-use Rattle.runs.proofs.fitting.Reads as fitting-reads
-use Rattle.values.proofs.store_value.Reads as store-value-reads
 
 abbrev Inv-loop : tie.InvT-loop
 Inv-loop message from into count packed₀ at fit done₀ packed done =
@@ -29,34 +23,10 @@ Inv-loop message from into count packed₀ at fit done₀ packed done =
 abbrev μ-loop : tie.MeasureT-loop
 μ-loop message from into count packed₀ at fit done₀ packed done = fit - done
 
-fitting-requires : tie.Need-fitting-requires Inv-loop μ-loop
-fitting-requires c κs = search needs
-
 loop-holds : tie.Need-loop-holds Inv-loop μ-loop
 loop-holds c =
     let a = c .before .before .before .args in
     copying-none setValue (unpack (now (a .message))) (8 * a .from + a .into) (a .at) (a .count) (now (a .packed))
-
-add-octet-at : tie.Need-add-octet-at Inv-loop μ-loop
-add-octet-at c = search needs
-
-octet-at-requires : tie.Need-octet-at-requires Inv-loop μ-loop
-octet-at-requires c κs = search needs
-
-add-store-value : tie.Need-add-store-value Inv-loop μ-loop
-add-store-value c = search needs
-
-cast-store-value : tie.Need-cast-store-value Inv-loop μ-loop
-cast-store-value c = search needs
-
-store-value-requires : tie.Need-store-value-requires Inv-loop μ-loop
-store-value-requires c κs = search needs
-
-add-done : tie.Need-add-done Inv-loop μ-loop
-add-done c = search needs
-
-loop-less : tie.Need-loop-less Inv-loop μ-loop
-loop-less c = search needs
 
 loop-again : tie.Need-loop-again Inv-loop μ-loop
 loop-again c =
@@ -73,9 +43,6 @@ loop-again c =
     (is ∙ ap pos (octet .ensures .0 ∙ ap (λ (k : ℕ). numberOf (take 8 (drop k b))) e))
     (length-setValue (l .packed) (a .at + l .done) v))
 
-same-length : tie.Need-same-length Inv-loop μ-loop
-same-length c = search needs
-
 returns : tie.Need-returns Inv-loop μ-loop
 returns c =
     let l = c .before .loop in
@@ -89,15 +56,15 @@ read-packed-spec =
     (tie.spec
     Inv-loop
     μ-loop
-    fitting-requires
+    (λ c κs. search needs)
     loop-holds
-    add-octet-at
-    octet-at-requires
-    add-store-value
-    cast-store-value
-    store-value-requires
-    add-done
-    loop-less
+    (λ c. search needs)
+    (λ c κs. search needs)
+    (λ c. search needs)
+    (λ c. search needs)
+    (λ c κs. search needs)
+    (λ c. search needs)
+    (λ c. search needs)
     loop-again
-    same-length
+    (λ c. search needs)
     returns)

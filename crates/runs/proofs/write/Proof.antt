@@ -1,6 +1,6 @@
 -- `runs::write` meets its contract. The values come from the first slice, or from the octets where that is empty.
-use Prim.Native.Nat.{ℕ, _+_, _-_, _*_, _/_, _%_, _≤_, _<_, min}
-use mathlib.Core.Path.{_≡_, refl, sym, ap, _∙_}
+use Prim.Native.Nat.{ℕ, _+_, _-_, _*_, _/_, _%_, _≤_, min}
+use mathlib.Core.Path.{_≡_, refl}
 use mathlib.Core.List.{List, [], _∷_, _++_}
 use native.Mathlib.Omega.{arith}
 use native.Mathlib.Nat.{le-trans}
@@ -9,20 +9,10 @@ use lib.IntN.{ℤ}
 use lib.ListN.{length, length-append}
 use Rattle.values.specs.Values.{valuesIn}
 use Rattle.values.proofs.Stores.{length-valuesIn}
-use Rattle.runs.specs.Runs.{Puts, Written}
 use Rattle.runs.proofs.Putting.{puts-front}
 use borrow.Author.Needs.{needs}
 use Rattle.runs.proofs.write.Statement.{statement}
 use Rattle.runs.proofs.write.Tie as tie
-use Rattle.runs.proofs.write.Reads as reads
-use Rattle.runs.proofs.write.Lts as lts
-use Rattle.bits.proofs.BitPlace.after.Reads as after-reads
-use Rattle.bits.proofs.BitPlace.bits_into_octet.Reads as bits-into-octet-reads
-use Rattle.bits.proofs.BitPlace.octets_before.Reads as octets-before-reads
-use Rattle.bits.proofs.OctetSize.between.Reads as between-reads
-use Rattle.runs.proofs.fitting.Reads as fitting-reads
-use Rattle.runs.proofs.write_numbers.Reads as write-numbers-reads
-use Rattle.runs.proofs.write_packed.Reads as write-packed-reads
 
 -- what the run is held to: count, the list's n values, and the room behind the place
 module _ (count n index len place end there room listed : ℕ) (e : end ≡ len * 8) (t : there ≡ (end - place) / 8) (r : room ≡ min count (there - 0))
@@ -42,30 +32,6 @@ module _ (count n index len place end there room listed : ℕ) (e : end ≡ len 
 empty : (l : List ℤ) → length l ≡ 0 → (m : List ℤ) → m ≡ l ++ m
 empty [] e m = refl
 empty (x ∷ l) e m = absurd (omega (arith, e))
-
-octets-before-requires : tie.Need-octets-before-requires
-octets-before-requires c κs = search needs
-
-bits-into-octet-requires : tie.Need-bits-into-octet-requires
-bits-into-octet-requires c κs = search needs
-
-after-requires : tie.Need-after-requires
-after-requires c κs = search needs
-
-between-requires : tie.Need-between-requires
-between-requires c κs = search needs
-
-fitting-requires : tie.Need-fitting-requires
-fitting-requires c κs = search needs
-
-fitting-requires-2 : tie.Need-fitting-requires-2
-fitting-requires-2 c κs = search needs
-
-write-packed-requires : tie.Need-write-packed-requires
-write-packed-requires c κs = search needs
-
-same-length : tie.Need-same-length
-same-length c = search needs
 
 returns : tie.Need-returns
 returns c =
@@ -90,9 +56,6 @@ returns c =
     rw (← empty v none ps)
     (record { within = omega (arith, less, within); listed = omega (arith, less, listed, length-valuesIn (now (a .packed))); room = omega (arith, less, fits); puts = puts })
 
-fitting-requires-3 : tie.Need-fitting-requires-3
-fitting-requires-3 c κs = search needs
-
 write-numbers-requires : tie.Need-write-numbers-requires
 write-numbers-requires c κs =
     let a = c .before .before .before .before .before .before .before .before .before .before .args in
@@ -108,9 +71,6 @@ write-numbers-requires c κs =
       in-octets (a .count) v (a .index) o p (end .result .0) (there .result .0) (room .result) (n .result) (end .ensures) (there .ensures) (room .ensures) (n .ensures)
           (c .before .before .before .before .before .before .before .octets-before .result .0) (c .before .before .before .before .before .before .bits-into-octet .result) (c .before .before .before .before .before .before .before .octets-before .ensures) (c .before .before .before .before .before .before .bits-into-octet .ensures),
     )
-
-same-length-2 : tie.Need-same-length-2
-same-length-2 c = search needs
 
 returns-2 : tie.Need-returns-2
 returns-2 c =
@@ -142,16 +102,16 @@ pub write-spec : {M : Type 1} → statement M
 write-spec =
     tie.close
     (tie.spec
-    octets-before-requires
-    bits-into-octet-requires
-    after-requires
-    between-requires
-    fitting-requires
-    fitting-requires-2
-    write-packed-requires
-    same-length
+    (λ c κs. search needs)
+    (λ c κs. search needs)
+    (λ c κs. search needs)
+    (λ c κs. search needs)
+    (λ c κs. search needs)
+    (λ c κs. search needs)
+    (λ c κs. search needs)
+    (λ c. search needs)
     returns
-    fitting-requires-3
+    (λ c κs. search needs)
     write-numbers-requires
-    same-length-2
+    (λ c. search needs)
     returns-2)

@@ -9,18 +9,9 @@ use Rattle.values.proofs.Stores.{setValue-out}
 use borrow.Author.Needs.{needs}
 use Rattle.values.proofs.keep_octets.Statement.{statement}
 use Rattle.values.proofs.keep_octets.Tie as tie
-use Rattle.values.proofs.keep_octets.Reads as reads
-use Rattle.values.proofs.keep_octets.Lts as lts
-use Rattle.values.proofs.store_value.Reads as store-value-reads
 
 -- src/lib.rt:104:9
-store-value-requires : tie.Need-store-value-requires
-store-value-requires c κs = search needs
-
 -- src/lib.rt:100:1
-same-length : tie.Need-same-length
-same-length c = search needs
-
 -- src/lib.rt:100:1
 returns : tie.Need-returns
 returns c =
@@ -34,4 +25,4 @@ returns-2 c =
     sym (setValue-out (now (start .args .octets)) (start .args .at) (start .args .value) (omega arith))
 
 pub keep-octets-spec : {M : Type 1} → statement M
-keep-octets-spec = tie.close (tie.spec store-value-requires same-length returns returns-2)
+keep-octets-spec = tie.close (tie.spec (λ c κs. search needs) (λ c. search needs) returns returns-2)

@@ -11,27 +11,11 @@ use Rattle.values.proofs.Stores.{setValue-sets}
 use borrow.Author.Needs.{needs}
 use Rattle.values.proofs.store_value.Statement.{statement}
 use Rattle.values.proofs.store_value.Tie as tie
-use Rattle.values.proofs.store_value.Reads as reads
-use Rattle.values.proofs.store_value.Lts as lts
-use Rattle.values.proofs.complement_of.Reads as complement-of-reads
-use Rattle.values.proofs.store_eight.Reads as store-eight-reads
 
 -- src/lib.rt:96:25
-mul-store-eight : tie.Need-mul-store-eight
-mul-store-eight c = search needs
-
 -- src/lib.rt:96:33
-complement-of-requires : tie.Need-complement-of-requires
-complement-of-requires c κs = search needs
-
 -- src/lib.rt:96:5
-store-eight-requires : tie.Need-store-eight-requires
-store-eight-requires c κs = search needs
-
 -- src/lib.rt:92:1
-same-length : tie.Need-same-length
-same-length c = search needs
-
 -- src/lib.rt:92:1
 returns : tie.Need-returns
 unfolding valueOctets
@@ -47,4 +31,4 @@ returns c =
 pub store-value-spec : {M : Type 1} → statement M
 store-value-spec =
     tie.close
-    (tie.spec mul-store-eight complement-of-requires store-eight-requires same-length returns)
+    (tie.spec (λ c. search needs) (λ c κs. search needs) (λ c κs. search needs) (λ c. search needs) returns)

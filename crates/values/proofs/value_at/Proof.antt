@@ -14,23 +14,11 @@ use borrow.Author.Needs.{needs}
 use Rattle.values.proofs.value_at.Statement.{statement}
 use Rattle.values.proofs.value_at.Tie as tie
 
-mul-result : tie.Need-mul-result
-mul-result c = search needs
-
-shared-slice-copy-out-result : tie.Need-shared-slice-copy-out-result
-shared-slice-copy-out-result c = search needs
-
 returns : tie.Need-returns
 returns c =
     let a = c .before .before .before .args in
     toZ-ofZ {w = w64} (record { sfits = c .result .given })
     ∙ sym (List·getD-append (now (a .values)) (valuesIn (now (a .octets))) (pos 0) (a .at) (c .before .if1 .taken))
-
-sub-value-in : tie.Need-sub-value-in
-sub-value-in c = search needs
-
-value-in-requires : tie.Need-value-in-requires
-value-in-requires c κs = search needs
 
 returns-2 : tie.Need-returns-2
 returns-2 c =
@@ -47,9 +35,9 @@ pub value-at-spec : {M : Type 1} → statement M
 value-at-spec =
     tie.close
     (tie.spec
-    mul-result
-    shared-slice-copy-out-result
+    (λ c. search needs)
+    (λ c. search needs)
     returns
-    sub-value-in
-    value-in-requires
+    (λ c. search needs)
+    (λ c κs. search needs)
     returns-2)

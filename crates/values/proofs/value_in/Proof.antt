@@ -1,5 +1,4 @@
 -- `values::value_in` meets its contract. Eight octets spell the value in two's complement.
-use Prim.Native.Nat.{ℕ}
 use mathlib.Core.Path.{sym, ap, _∙_}
 use native.Mathlib.Omega.{arith}
 use denote.Ref.{now}
@@ -10,23 +9,10 @@ use Rattle.values.proofs.Stores.{getD-valuesIn}
 use borrow.Author.Needs.{needs}
 use Rattle.values.proofs.value_in.Statement.{statement}
 use Rattle.values.proofs.value_in.Tie as tie
-use Rattle.values.proofs.value_in.Reads as reads
-use Rattle.values.proofs.value_in.Lts as lts
-use Rattle.values.proofs.eight_at.Reads as eight-at-reads
-use Rattle.values.proofs.value_of.Reads as value-of-reads
 
 -- src/lib.rt:128:35
-mul-eight-at : tie.Need-mul-eight-at
-mul-eight-at c = search needs
-
 -- src/lib.rt:128:9
-eight-at-requires : tie.Need-eight-at-requires
-eight-at-requires c κs = search needs
-
 -- src/lib.rt:129:5
-value-of-requires : tie.Need-value-of-requires
-value-of-requires c κs = search needs
-
 -- src/lib.rt:124:1
 returns : tie.Need-returns
 returns c =
@@ -37,4 +23,4 @@ returns c =
     ∙ sym (getD-valuesIn (now (a .octets)) (a .at) (omega arith))
 
 pub value-in-spec : {M : Type 1} → statement M
-value-in-spec = tie.close (tie.spec mul-eight-at eight-at-requires value-of-requires returns)
+value-in-spec = tie.close (tie.spec (λ c. search needs) (λ c κs. search needs) (λ c κs. search needs) returns)

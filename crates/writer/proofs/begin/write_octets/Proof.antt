@@ -1,9 +1,8 @@
 -- `writer::begin::write_octets` meets its contract. Writing the run comes to writing what is left of it after the octets that
 -- were put (`continues-octets`).
 -- Assumes nothing.
-use Prim.Native.Nat.{ℕ, _+_, _-_, _*_, _/_, _≤_}
-use mathlib.Core.Path.{_≡_, sym, ap, _∙_}
-use mathlib.Core.List.{_++_}
+use Prim.Native.Nat.{ℕ, _+_, _-_, _/_, _≤_}
+use mathlib.Core.Path.{_≡_, ap, _∙_}
 use native.Mathlib.Omega.{arith}
 use denote.Ref.{now}
 use lib.ListN.{length, length-append}
@@ -14,17 +13,6 @@ use Rattle.writer.proofs.Octets.{continues-octets}
 use borrow.Author.Needs.{needs}
 use Rattle.writer.proofs.begin.write_octets.Statement.{statement}
 use Rattle.writer.proofs.begin.write_octets.Tie as tie
-use Rattle.writer.proofs.begin.write_octets.Reads as reads
-use Rattle.writer.proofs.begin.write_octets.Lts as lts
-use Rattle.bits.proofs.BitPlace.further.Reads as further-reads
-use Rattle.runs.proofs.write.Reads as write-reads
-use Rattle.writer.proofs.begin.write_singly.Reads as write-singly-reads
-
-write-requires : tie.Need-write-requires
-write-requires c κs = search needs
-
-further-requires : tie.Need-further-requires
-further-requires c κs = search needs
 
 add-write-singly : tie.Need-add-write-singly
 add-write-singly c =
@@ -35,15 +23,6 @@ add-write-singly c =
     let long : length (listIn v o) ≡ length v + length o / 8 = length-append v (valuesIn o) ∙ ap (λ (k : ℕ). length v + k) (length-valuesIn o) in
     let listed : put .result ≤ length v + length o / 8 - a .cursor .index = rw long at (put .ensures .listed) in
     record { fits = omega (arith, listed) }
-
-sub-write-singly : tie.Need-sub-write-singly
-sub-write-singly c = search needs
-
-write-singly-requires : tie.Need-write-singly-requires
-write-singly-requires c κs = search needs
-
-same-length : tie.Need-same-length
-same-length c = search needs
 
 returns : tie.Need-returns
 returns c =
@@ -58,10 +37,10 @@ pub write-octets-spec : {M : Type 1} → statement M
 write-octets-spec =
     tie.close
     (tie.spec
-    write-requires
-    further-requires
+    (λ c κs. search needs)
+    (λ c κs. search needs)
     add-write-singly
-    sub-write-singly
-    write-singly-requires
-    same-length
+    (λ c. search needs)
+    (λ c κs. search needs)
+    (λ c. search needs)
     returns)
