@@ -9,7 +9,7 @@ use borrow.Author.Tests.{lt-leb}
 use lib.IntN.{ℤ, pos}
 use lib.ListN.{length, take, drop, set, length-drop}
 use lib.Seq.{drop-drop}
-use Rattle.bits.specs.Bits.{numberOf, width, unpack}
+use Rattle.bits.specs.Bits.{numberOf, width, unpack, pack}
 use Rattle.bits.specs.Access.{placeAt}
 use Rattle.bits.proofs.Bits.{length-unpack, numberOf-take-lt}
 use Rattle.item.specs.Code.{number}
@@ -50,7 +50,7 @@ module _ (message : List ℕ) (room : ℕ) where
 
   pub continues-octets : (n left : ℕ) (s : State) → 8 * n ≤ 8 * length message - s .cursor .place .0 → n ≤ room - s .cursor .count
       → Continues message room (octets (n + left)) s (octets left) (further n s)
-  unfolding octetValues
+  unfolding pack
   continues-octets zero left s there free =
       let e : s .cursor .place .0 + 8 * 0 ≡ s .cursor .place .0 = omega arith in
       let f : s .cursor .count + 0 ≡ s .cursor .count = omega arith in

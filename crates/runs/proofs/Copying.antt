@@ -8,7 +8,7 @@ use native.Mathlib.Omega.{arith}
 use lib.IntN.{ℤ, pos}
 use lib.ListN.{length, take, drop}
 use lib.Seq.{drop-drop}
-use Rattle.bits.specs.Bits.{numberOf}
+use Rattle.bits.specs.Bits.{numberOf, pack}
 use Rattle.values.specs.Values.{storeAll}
 use Rattle.values.proofs.Stores.{storeAll-out}
 use Rattle.runs.specs.Runs.{octetValues}
@@ -33,7 +33,7 @@ module _ {A : Type 0} (put : List A → ℕ → ℤ → List A) (b : List Bool) 
 
   pub copying-one : (l : List A) (done : ℕ) (v : ℤ) → Copying l done → done < count → v ≡ pos (numberOf (take 8 (drop (start + 8 * done) b)))
       → length (put l (at + done) v) ≡ length l → Copying (put l (at + done) v) (done + 1)
-  unfolding octetValues
+  unfolding pack
   copying-one l done v h more e same =
       let n : count - done ≡ suc (count - (done + 1)) = omega arith in
       let i : at + (done + 1) ≡ suc (at + done) = omega arith in
@@ -43,7 +43,7 @@ module _ {A : Type 0} (put : List A → ℕ → ℤ → List A) (b : List Bool) 
 
   pub copying-done : (l : List A) (done : ℕ) → Copying l done → (done < count → (j : ℕ) (v : ℤ) → at + done ≤ j → put l j v ≡ l)
       → l ≡ storeAll put l₀ at (octetValues count (drop start b))
-  unfolding octetValues
+  unfolding pack
   copying-done l done h out = by-left (count - done) refl
     where
       by-left : (n : ℕ) → count - done ≡ n → l ≡ storeAll put l₀ at (octetValues count (drop start b))

@@ -2,14 +2,15 @@
 // no test of its own, and so the compiler takes several at a time.
 use bits::BitPlace;
 use bits::OctetSize;
-ghost use mathlib.Core.Bool.{true};
+ghost use mathlib.Core.Bool.{true, false};
 ghost use mathlib.Core.List.{_++_};
 ghost use mathlib.Core.Path.{_≡_};
 ghost use Prim.Native.Nat.{_+_, _-_, _*_, _/_, _<_, _≤_, min};
-ghost use lib.ListN.{length, drop, set};
+ghost use lib.IntN.{pos, natAbs};
+ghost use lib.ListN.{length, getD, drop, set};
 ghost use Rattle.bits.specs.Bits.{unpack};
 ghost use Rattle.values.specs.Values.{setValue, storeAll, valuesIn};
-ghost use Rattle.runs.specs.Runs.{octetValues, isOctet, octetOf, Puts, Written};
+ghost use Rattle.runs.specs.Runs.{octetValues, isOctet, reach, Puts, Written};
 
 // How many of count there are places for, from one of so many places on.
 pub fn fitting(length: usize, at: usize, count: usize) -> usize
@@ -82,7 +83,7 @@ fn is_octet(value: i64) -> bool
 // A value that is an octet.
 fn octet_of(value: i64) -> u8
     requires { ⌜ isOctet value ≡ true ⌝ }
-    ensures { λ r. ⌜ r ≡ octetOf value ⌝ }
+    ensures { λ r. ⌜ r ≡ natAbs value ⌝ }
 {
     value as u8
 }
@@ -97,7 +98,7 @@ fn write_numbers(
     into: u32,
 ) -> usize
     requires { ⌜ (into < 8) × (count ≤ length (now values) - index) × (8 * count ≤ 8 * length (now output) - (8 * at + into)) ⌝ }
-    ensures { λ r. ⌜ (r ≤ count) × Puts (now (values .entry)) index r (now (output .entry)) (8 * at + into) (now (output .exit)) ⌝ }
+    ensures { λ r. ⌜ (r ≤ count) × (r < count → isOctet (getD (now (values .entry)) (index + r) (pos 0)) ≡ false) × Puts (now (values .entry)) index r (now (output .entry)) (8 * at + into) (now (output .exit)) ⌝ }
 {
     let mut done = 0;
     while done < count {
@@ -121,7 +122,7 @@ fn write_packed(
     into: u32,
 ) -> usize
     requires { ⌜ (into < 8) × (count ≤ length (now packed) / 8 - index) × (8 * count ≤ 8 * length (now output) - (8 * at + into)) ⌝ }
-    ensures { λ r. ⌜ (r ≤ count) × Puts (valuesIn (now (packed .entry))) index r (now (output .entry)) (8 * at + into) (now (output .exit)) ⌝ }
+    ensures { λ r. ⌜ (r ≤ count) × (r < count → isOctet (getD (valuesIn (now (packed .entry))) (index + r) (pos 0)) ≡ false) × Puts (valuesIn (now (packed .entry))) index r (now (output .entry)) (8 * at + into) (now (output .exit)) ⌝ }
 {
     let mut done = 0;
     while done < count {
@@ -135,8 +136,8 @@ fn write_packed(
     done
 }
 
-// Puts up to count values into the output from a place on: those that are octets and that there is room for. Tells how many;
-// the next one, if any, is for the caller to judge.
+// Puts up to count values into the output from a place on: as many as there are and there is room for, up to the first that is
+// no octet. Tells how many; the next one, if any, is for the caller to judge.
 pub fn write(
     values: &[i64],
     packed: &[u8],
@@ -146,7 +147,7 @@ pub fn write(
     place: BitPlace,
 ) -> usize
     requires { ⌜ length (now output) ≤ 65535 ⌝ }
-    ensures { λ r. ⌜ Written (now (values .entry) ++ valuesIn (now (packed .entry))) index count (now (output .entry)) (place .0) r (now (output .exit)) ⌝ }
+    ensures { λ r. ⌜ Written (now (values .entry) ++ valuesIn (now (packed .entry))) (reach (now (values .entry)) (now (packed .entry))) index count (now (output .entry)) (place .0) r (now (output .exit)) ⌝ }
 {
     let first = BitPlace::octets_before(place);
     let into = BitPlace::bits_into_octet(place);

@@ -1,6 +1,5 @@
 -- `runs::is_octet` meets its contract.
-use mathlib.Core.Bool.{false}
-use mathlib.Core.Path.{_≡_, sym, ap, _∙_}
+use mathlib.Core.Path.{sym, ap, _∙_}
 use lib.IntN.{pos}
 use lib.Signed.{ltZ}
 use Rattle.values.proofs.Complement.{negative, positive}

@@ -4,13 +4,15 @@ use mathlib.Core.Path.{_≡_, refl, sym, ap, _∙_}
 use native.Mathlib.Omega.{arith}
 use borrow.Author.Needs.{needs}
 use denote.Ref.{now}
-use lib.ListN.{length}
+use lib.IntN.{pos}
+use lib.ListN.{length, getD}
 use mir.Syntax.{w64}
+use mir.Val.{toZ, ofZ}
 use mir.Facts.{toZ-ofZ}
-use borrow.Author.Tests.{not-false}
+use borrow.Author.Tests.{not-true, not-false}
 use Rattle.bits.specs.Bits.{bitsOf, unpack}
 use Rattle.bits.specs.Access.{overwritten}
-use Rattle.runs.specs.Runs.{Puts}
+use Rattle.runs.specs.Runs.{isOctet, Puts}
 use Rattle.runs.proofs.Putting.{puts-none, puts-one}
 use Rattle.runs.proofs.write_numbers.Statement.{statement}
 use Rattle.runs.proofs.write_numbers.Tie as tie
@@ -28,7 +30,12 @@ loop-holds c =
     (omega arith, refl, puts-none (now (a .values)) (a .index) (now (a .output)) (8 * a .at + a .into))
 
 returns : tie.Need-returns Inv-loop μ-loop
-returns c = let i = c .before .before .before .before .loop .inv in (i .0, i .2)
+returns c =
+    let l = c .before .before .before .before .loop in
+    let a = c .before .before .before .before .before .before .args in
+    let v = getD (now (a .values)) (a .index + l .done) (pos 0) in
+    let e : toZ w64 (ofZ w64 v) ≡ v = toZ-ofZ {w = w64} (record { sfits = c .before .before .value .given }) in
+    (l .inv .0, λ h. ap isOctet (sym e) ∙ sym (c .before .is-octet .ensures) ∙ not-true _ (c .if1 .taken), l .inv .2)
 
 octet-of-requires : tie.Need-octet-of-requires Inv-loop μ-loop
 octet-of-requires c κs = sym (c .before .before .is-octet .ensures) ∙ not-false _ (c .before .if1 .left)
@@ -49,7 +56,7 @@ loop-again c =
     )
 
 returns-2 : tie.Need-returns-2 Inv-loop μ-loop
-returns-2 c = let i = c .before .loop .inv in (i .0, i .2)
+returns-2 c = let i = c .before .loop .inv in (i .0, λ h. absurd (omega (arith, h)), i .2)
 
 pub write-numbers-spec : {M : Type 1} → statement M
 write-numbers-spec =

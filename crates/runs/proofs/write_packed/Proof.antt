@@ -7,11 +7,11 @@ use denote.Ref.{now}
 use lib.ListN.{length}
 use mir.Syntax.{w64}
 use mir.Facts.{toZ-ofZ}
-use borrow.Author.Tests.{not-false}
+use borrow.Author.Tests.{not-true, not-false}
 use Rattle.bits.specs.Bits.{bitsOf, unpack}
 use Rattle.bits.specs.Access.{overwritten}
 use Rattle.values.specs.Values.{valuesIn}
-use Rattle.runs.specs.Runs.{Puts}
+use Rattle.runs.specs.Runs.{isOctet, Puts}
 use Rattle.runs.proofs.Putting.{puts-none, puts-one}
 use Rattle.runs.proofs.write_packed.Statement.{statement}
 use Rattle.runs.proofs.write_packed.Tie as tie
@@ -29,7 +29,9 @@ loop-holds c =
     (omega arith, refl, puts-none (valuesIn (now (a .packed))) (a .index) (now (a .output)) (8 * a .at + a .into))
 
 returns : tie.Need-returns Inv-loop μ-loop
-returns c = let i = c .before .before .before .before .loop .inv in (i .0, i .2)
+returns c =
+    let i = c .before .before .before .before .loop .inv in
+    (i .0, λ h. ap isOctet (sym (toZ-ofZ {w = w64} (record { sfits = c .before .before .value-in .ok }) ∙ c .before .before .value-in .ensures)) ∙ sym (c .before .is-octet .ensures) ∙ not-true _ (c .if1 .taken), i .2)
 
 octet-of-requires : tie.Need-octet-of-requires Inv-loop μ-loop
 octet-of-requires c κs = sym (c .before .before .is-octet .ensures) ∙ not-false _ (c .before .if1 .left)
@@ -50,7 +52,7 @@ loop-again c =
     )
 
 returns-2 : tie.Need-returns-2 Inv-loop μ-loop
-returns-2 c = let i = c .before .loop .inv in (i .0, i .2)
+returns-2 c = let i = c .before .loop .inv in (i .0, λ h. absurd (omega (arith, h)), i .2)
 
 pub write-packed-spec : {M : Type 1} → statement M
 write-packed-spec =
