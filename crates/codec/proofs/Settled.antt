@@ -24,9 +24,9 @@ use Rattle.table.proofs.Decides.{passes-exactly}
 use Rattle.encoding.specs.Items.{Items}
 use Rattle.encoding.specs.Rows.{asks}
 use Rattle.encoding.specs.Encoding.{size}
-use Rattle.encoding.specs.Reading.{Reading, done, stuck, readItems, ReadOutcome, accept, refuse, allZero, closeRead, decode, onPassed, readOutcome, readAnswer, readValues}
-use Rattle.encoding.specs.Calls.{filled, valuesAfter}
-use Rattle.encoding.proofs.ReadItems.{read-sound}
+use Rattle.encoding.specs.Reading.{ReadOutcome, accept, refuse, decode, onPassed, readOutcome, readAnswer, readValues}
+use Rattle.encoding.specs.Calls.{valuesAfter, packedAfter}
+use Rattle.encoding.proofs.Messages.{decode-fits}
 use Rattle.codec.specs.Kept.{KeptBy, keptCount, messageOutcome}
 
 -- ── the verdict ──
@@ -60,18 +60,6 @@ empty-outcome t (o ∷ os) room h = absurd (omega arith)
 
 -- ── room ──
 
-pub decode-fits : (p : Items) (s : List ℕ) (room : ℕ) (vs : List ℤ) (n : ℕ) → decode p s room ≡ accept vs n → length vs ≤ room
-decode-fits p [] room vs n e = let z : _≡_ {A = ℕ} 0 1 = cc in absurd (omega arith)
-decode-fits p (o ∷ os) room vs n e = go (readItems p (unpack (o ∷ os)) room 0) refl e
-  where
-    test : (t : Bool) (us : List ℤ) (at : ℕ) → cond t (accept us at) (refuse 9 at) ≡ accept vs n → us ≡ vs
-    test true us at e = cc
-    test false us at e = cc
-
-    go : (x : Reading) → readItems p (unpack (o ∷ os)) room 0 ≡ x → closeRead (length (o ∷ os)) x ≡ accept vs n → length vs ≤ room
-    go (stuck m at) q e = let z : _≡_ {A = ℕ} 0 1 = cc in absurd (omega arith)
-    go (done us at r) q e = rw (← test (eqb (length (o ∷ os)) (size at) && allZero r) us at e) (read-sound p (unpack (o ∷ os)) room 0 us at r q .fits)
-
 pub outcome-fits : (t s : List ℕ) (room : ℕ) → length (readValues (messageOutcome t s room)) ≤ room
 outcome-fits t s room = go (leb (length s) 65535) (decode (asks t) s room) refl
   where
@@ -93,7 +81,7 @@ settled-values (accept vs n) old new l e k = rw (e, k) (cleared-values vs old l)
 settled-values (refuse n p) old new l e k = ap (λ m. replicate (m - 0) (pos 0)) e
 
 pub settled-packed : (x : ReadOutcome) (old new : List ℕ) → 8 * length (readValues x) ≤ length old → length new ≡ length old → KeptBy setValue x old new
-    → take (8 * length (readValues x)) new ++ replicate (length new - 8 * length (readValues x)) 0 ≡ filled 0 (length old) (listOctets (readValues x))
+    → take (8 * length (readValues x)) new ++ replicate (length new - 8 * length (readValues x)) 0 ≡ packedAfter (length old) x
 unfolding listOctets
 settled-packed (accept vs n) old new l e k = rw (e, k, length-listOctets vs) (cleared-octets vs old l)
 settled-packed (refuse n p) old new l e k = ap (λ m. replicate (m - 0) 0) e

@@ -7,12 +7,12 @@ use answer::Answer;
 ghost use mathlib.Core.Path.{_≡_};
 ghost use Prim.Native.Nat.{_/_};
 ghost use lib.ListN.{length};
-ghost use Rattle.values.specs.Values.{listOctets, valuesIn};
+ghost use Rattle.values.specs.Values.{valuesIn};
 ghost use Rattle.table.specs.Rules.{Obeys};
 ghost use Rattle.table.specs.Root.{root};
-ghost use Rattle.encoding.specs.Reading.{readOutcome, readValues};
+ghost use Rattle.encoding.specs.Reading.{readOutcome};
 ghost use Rattle.encoding.specs.Writing.{writeOutcome};
-ghost use Rattle.encoding.specs.Calls.{readCall, valuesAfter, filled, writeCall, outputAfter};
+ghost use Rattle.encoding.specs.Calls.{readCall, valuesAfter, packedAfter, writeCall, outputAfter};
 ghost use Rattle.writer.specs.Writes.{listIn};
 
 // Reads all lent octets as one message into the value slice, under a table that is known to pass, whose root is at an offset.
@@ -42,7 +42,7 @@ pub fn read(table: &[u8], message: &[u8], values: &mut [i64]) -> Answer
 
 // The same with the values as octets, eight for each.
 pub fn read_packed(table: &[u8], message: &[u8], packed: &mut [u8]) -> Answer
-    ensures { λ r. ⌜ (r ≡ readCall (now (table .entry)) (now (message .entry)) (length (now (packed .entry)) / 8)) × (now (packed .exit) ≡ filled 0 (length (now (packed .entry))) (listOctets (readValues (readOutcome (now (table .entry)) (now (message .entry)) (length (now (packed .entry)) / 8))))) ⌝ }
+    ensures { λ r. ⌜ (r ≡ readCall (now (table .entry)) (now (message .entry)) (length (now (packed .entry)) / 8)) × (now (packed .exit) ≡ packedAfter (length (now (packed .entry))) (readOutcome (now (table .entry)) (now (message .entry)) (length (now (packed .entry)) / 8))) ⌝ }
 {
     let verdict = table::check(table);
     let Answer::Accepted(_) = verdict else {

@@ -4,5 +4,8 @@ pub mod Written
 pub mod Walks
 pub mod Spells
 pub mod RowItems
+pub mod Every
+pub mod Fitting
 pub mod Demand3
+pub mod Demand3Octets
 pub mod Demand2

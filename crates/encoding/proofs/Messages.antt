@@ -60,6 +60,15 @@ cond-inv : (t : Bool) (x : List ℤ) (n m : ℕ) {y : List ℤ} {k : ℕ} → co
 cond-inv true x n m e = (refl, cc, cc)
 cond-inv false x n m e = (cc, cc, cc)
 
+-- what is accepted fits the room, of any numbers as octets
+pub decode-fits : (p : Items) (s : List ℕ) (room : ℕ) (vs : List ℤ) (n : ℕ) → decode p s room ≡ accept vs n → length vs ≤ room
+decode-fits p [] room vs n e = let z : _≡_ {A = ℕ} 0 1 = cc in absurd (omega arith)
+decode-fits p (o ∷ os) room vs n e = go (readItems p (unpack (o ∷ os)) room 0) refl e
+  where
+    go : (x : Reading) → readItems p (unpack (o ∷ os)) room 0 ≡ x → closeRead (length (o ∷ os)) x ≡ accept vs n → length vs ≤ room
+    go (stuck m at) q e = let z : _≡_ {A = ℕ} 0 1 = cc in absurd (omega arith)
+    go (done us at r) q e = rw (← (cond-inv (eqb (length (o ∷ os)) (size at) && allZero r) us at at e .1)) (read-sound p (unpack (o ∷ os)) room 0 us at r q .fits)
+
 module _ (p : Items) (s : List ℕ) (room : ℕ) (bytes : (i : ℕ) → getD s i 0 < 256) (vs : List ℤ) (n : ℕ) where
   closeRead-sound : (x : Reading) → readItems p (unpack s) room 0 ≡ x → closeRead (length s) x ≡ accept vs n → Accepted p s room vs n
   closeRead-sound (stuck m at) q e = let z : _≡_ {A = ℕ} 0 1 = cc in absurd (omega arith)

@@ -5,6 +5,7 @@ use mathlib.Core.List.{List, _++_}
 use lib.IntN.{ℤ, pos}
 use lib.ListN.{length, replicate}
 use Rattle.answer.specs.declared.Answer.{Answer}
+use Rattle.values.specs.Values.{listOctets}
 use Rattle.encoding.specs.Reading.{ReadOutcome, readOutcome, readAnswer, readValues}
 use Rattle.encoding.specs.Writing.{WriteOutcome, writeOutcome, writeAnswer, writeOctets}
 
@@ -15,6 +16,10 @@ filled z n xs = xs ++ replicate (n - length xs) z
 -- the value slice after reading
 abbrev pub valuesAfter : ℕ → ReadOutcome → List ℤ
 valuesAfter room outcome = filled (pos 0) room (readValues outcome)
+
+-- the same slice as octets, eight for each value: those of the list, then zeros to its end, which need not be a whole eight
+abbrev pub packedAfter : ℕ → ReadOutcome → List ℕ
+packedAfter size outcome = filled 0 size (listOctets (readValues outcome))
 
 -- the output after writing
 abbrev pub outputAfter : ℕ → WriteOutcome → List ℕ

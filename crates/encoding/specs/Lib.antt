@@ -7,4 +7,5 @@ pub mod Writing
 pub mod Spell
 pub mod Calls
 pub mod Demand3
+pub mod Demand3Octets
 pub mod Demand2

@@ -75,7 +75,7 @@ value-is v low = sym (-ℤ-+ℤ-cancel v low) ∙ +ℤ-comm (v -ℤ low) low
 
 -- ── low and an offset, as the code adds them ──
 
-mag-add : (l : ℤ) (n : ℕ) → mag (l +ℤ pos n) ≤ mag l + n
+pub mag-add : (l : ℤ) (n : ℕ) → mag (l +ℤ pos n) ≤ mag l + n
 mag-add (pos a) n = omega arith
 mag-add (negsuc a) n = go (ltb n (suc a)) refl
   where

@@ -4,11 +4,11 @@ use answer::Answer;
 ghost use mathlib.Core.Path.{_≡_};
 ghost use Prim.Native.Nat.{_/_};
 ghost use lib.ListN.{length};
-ghost use Rattle.values.specs.Values.{listOctets, valuesIn};
+ghost use Rattle.values.specs.Values.{valuesIn};
 ghost use Rattle.table.specs.Verdict.{verdict, checked};
-ghost use Rattle.encoding.specs.Reading.{readOutcome, readValues};
+ghost use Rattle.encoding.specs.Reading.{readOutcome};
 ghost use Rattle.encoding.specs.Writing.{writeOutcome};
-ghost use Rattle.encoding.specs.Calls.{readCall, filled, writeCall, outputAfter};
+ghost use Rattle.encoding.specs.Calls.{readCall, packedAfter, writeCall, outputAfter};
 ghost use Rattle.teyolxan.specs.Told.{told};
 
 // The answer as six numbers: the refusal's number, its place, the values, the bits, the octets, and 0.
@@ -42,7 +42,7 @@ pub extern "C" fn teyolxan_read(
     values: &mut [u8],
     numbers: &mut [u64; 6],
 )
-    ensures { λ _. ⌜ (now (numbers .exit) ≡ told (readCall (now (table .entry)) (now (message .entry)) (length (now (values .entry)) / 8))) × (now (values .exit) ≡ filled 0 (length (now (values .entry))) (listOctets (readValues (readOutcome (now (table .entry)) (now (message .entry)) (length (now (values .entry)) / 8))))) ⌝ }
+    ensures { λ _. ⌜ (now (numbers .exit) ≡ told (readCall (now (table .entry)) (now (message .entry)) (length (now (values .entry)) / 8))) × (now (values .exit) ≡ packedAfter (length (now (values .entry))) (readOutcome (now (table .entry)) (now (message .entry)) (length (now (values .entry)) / 8))) ⌝ }
 {
     let answer = codec::read_packed(table, message, values);
     *numbers = told(answer);

@@ -23,6 +23,7 @@ use Rattle.encoding.specs.Rows.{presence, fields, rowItems, items, asks}
 use Rattle.encoding.specs.Encoding.{size}
 use Rattle.encoding.specs.Reading.{Reading, done, stuck, prepend, readOne, readItems, ReadOutcome, accept, refuse, allZero, closeRead, decode}
 use Rattle.encoding.proofs.RowItems.{items-row}
+use Rattle.encoding.proofs.Every.{Every, Codes, Below, every-row}
 use Rattle.builtin.specs.Tables.{lm}
 use Rattle.builtin.proofs.Tables.{lm-root}
 use Rattle.lm.specs.ByName.{lmVersion, lmSubtype, readIf, readLmOutcome}
@@ -30,18 +31,12 @@ use Rattle.userdata.specs.UserData.{enough}
 
 -- ── items that each take a bit ──
 
+-- a code whose every value takes a bit at least
+abbrev Bits : Code → Type 0
+Bits c = (v : ℤ) → 1 ≤ length (valueBits c v)
+
 abbrev Costs : Items → Type 0
-Costs stop = Unit {0}
-Costs (ask c k) = ((v : ℤ) → 1 ≤ length (valueBits c v)) × ((v : ℤ) → Costs (k v))
-
-costs-then : (p q : Items) → Costs p → Costs q → Costs (p then q)
-costs-then stop q h k = k
-costs-then (ask c f) q h k = (h .0, λ v. costs-then (f v) q (h .1 v) k)
-
-costs-times : (n : ℕ) (p : Items) → Costs p → Costs (times n p)
-unfolding times
-costs-times zero p h = tt
-costs-times (suc n) p h = costs-then p (times n p) h (costs-times n p h)
+Costs = Every Bits
 
 spelling-costs : (c m : ℕ) → 1 ≤ length (spelling c m)
 spelling-costs c m = simp (length-append, length-leading) (omega arith)
@@ -59,25 +54,7 @@ length-costs least most v =
 number-costs : (low : ℤ) (span : ℕ) → 1 ≤ width span → (v : ℤ) → 1 ≤ length (valueBits (number low span) v)
 number-costs low span h v = rw length-bitsOf h
 
-presence-costs : (flags : List ℕ) (k : List Bool → Items) → ((ps : List Bool) → Costs (k ps)) → Costs (presence flags k)
-unfolding presence width
-presence-costs [] k h = h []
-presence-costs (zero ∷ flags) k h = presence-costs flags (λ ps. k (true ∷ ps)) (λ ps. h (true ∷ ps))
-presence-costs (suc f ∷ flags) k h = (number-costs (pos 0) 1 (omega arith), λ v. presence-costs flags _ (λ ps. h (eqb (natural v) 1 ∷ ps)))
-
 module _ (g : ℕ → Items) where
-  fields-costs : (rs : List ℕ) → All (λ r. Costs (g r)) rs → (ps : List Bool) → Costs (fields g rs ps)
-  unfolding fields
-  fields-costs [] h ps = tt
-  fields-costs (r ∷ rs) h [] = tt
-  fields-costs (r ∷ rs) h (true ∷ ps) = costs-then (g r) (fields g rs ps) (h .0) (fields-costs rs (h .1) ps)
-  fields-costs (r ∷ rs) h (false ∷ ps) = fields-costs rs (h .1) ps
-
-  branch-costs : (rs : List ℕ) → All (λ r. Costs (g r)) rs → Costs (g 65535) → (n : ℕ) → Costs (g (getD rs n 65535))
-  branch-costs [] h z n = z
-  branch-costs (r ∷ rs) h z zero = h .0
-  branch-costs (r ∷ rs) h z (suc n) = branch-costs rs (h .1) z n
-
   reserved-costs : (n : ℕ) → Costs (g 65535) → All (λ r. Costs (g r)) (replicate n 65535)
   reserved-costs zero z = tt
   reserved-costs (suc n) z = (z, reserved-costs n z)
@@ -93,16 +70,29 @@ module _ (g : ℕ → Items) where
   RowCosts (Octets least most) = Unit {0}
   RowCosts Unknown = Unit {0}
 
+  row-codes : (r : Row) → RowCosts r → Codes Bits r
+  unfolding width
+  row-codes (Number low span) h = number-costs low span h
+  row-codes Variable h = variable-costs
+  row-codes (FixedRun count r) h = tt
+  row-codes (CountedRun most r) h = length-costs 0 most
+  row-codes (Record rs flags) h = number-costs (pos 0) 1 (omega arith)
+  row-codes (Choice rs) h = λ v. rw length-bitsOf (h .0)
+  row-codes (Octets least most) h = (length-costs least most, number-costs (pos 0) 255 (omega arith))
+  row-codes Unknown h = tt
+
+  row-below : (r : Row) → RowCosts r → Below Costs g r
+  row-below (Number low span) h = tt
+  row-below Variable h = tt
+  row-below (FixedRun count r) h = h
+  row-below (CountedRun most r) h = h
+  row-below (Record rs flags) h = h
+  row-below (Choice rs) h = (h .1, h .2)
+  row-below (Octets least most) h = tt
+  row-below Unknown h = tt
+
   row-costs : (r : Row) → RowCosts r → Costs (rowItems g r)
-  unfolding rowItems one width
-  row-costs (Number low span) h = (number-costs low span h, λ v. tt)
-  row-costs Variable h = (variable-costs, λ v. tt)
-  row-costs (FixedRun count r) h = costs-times count (g r) h
-  row-costs (CountedRun most r) h = (length-costs 0 most, λ v. costs-times (natural v) (g r) h)
-  row-costs (Record rs flags) h = presence-costs flags (fields g rs) (fields-costs rs h)
-  row-costs (Choice rs) h = ((λ v. rw length-bitsOf (h .0)), λ v. branch-costs rs (h .1) (h .2) (natural v))
-  row-costs (Octets least most) h = (length-costs least most, λ v. costs-times (natural v) _ (number-costs (pos 0) 255 (omega arith), λ w. tt))
-  row-costs Unknown h = tt
+  row-costs r h = every-row Bits g r (row-codes r h) (row-below r h)
 
 -- ── the rows of LM ──
 

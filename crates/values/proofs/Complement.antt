@@ -34,6 +34,14 @@ pub uncomplement-complement : (v : ℤ) → mag v < 2 ^ 63 → uncomplement (com
 uncomplement-complement v h =
     uncomplement-toZ (complement v) ∙ ap (toZ w64) (complement-ofZ v) ∙ toZ-ofZ {w = w64} {z = v} (record { sfits = h })
 
+-- and so does a number of 64 bits
+pub complement-uncomplement : (n : ℕ) → n < 2 ^ 64 → complement (uncomplement n) ≡ n
+complement-uncomplement n h = go (ltb n (2 ^ 63))
+  where
+    go : (b : Bool) → complement (cond b (pos n) (negsuc (2 ^ 64 - 1 - n))) ≡ n
+    go true = refl
+    go false = omega arith
+
 -- -1 less a number has the other sign and the same magnitude
 minus-one-less-pos : (n : ℕ) → negsuc 0 -ℤ pos n ≡ negsuc n
 minus-one-less-pos zero = refl

@@ -1,8 +1,9 @@
 -- Laws of numbers as octets, the lowest first.
 use Prim.Native.Nat.{ℕ, zero, suc, _+_, _*_, _/_, _%_, _≤_, _<_, _^_}
 use mathlib.Core.Path.{_≡_, refl, ap, _∙_}
-use mathlib.Core.List.{List, _∷_}
+use mathlib.Core.List.{List, [], _∷_}
 use native.Mathlib.Omega.{arith}
+use native.Mathlib.Nat.{pow-succ'}
 use lib.ListN.{length, getD, take, drop, set}
 use lib.Seq.{drop-cons, sets}
 use Rattle.values.specs.Values.{littleEndian, littleNumber}
@@ -22,6 +23,19 @@ littleNumber-littleEndian zero n h = omega arith
 littleNumber-littleEndian (suc k) n h =
     let e = littleNumber-littleEndian k (n / 256) (omega arith) in
     omega arith
+
+-- octets spell a number that fits as many of them
+pub littleNumber-lt : (o : List ℕ) → ((i : ℕ) → getD o i 0 < 256) → littleNumber o < 256 ^ length o
+littleNumber-lt [] f = omega arith
+littleNumber-lt (x ∷ o) f = rw (pow-succ' 256 (length o)) (omega (arith, f 0, littleNumber-lt o (λ i. f (suc i))))
+
+-- and come back from it
+pub littleEndian-littleNumber : (o : List ℕ) → ((i : ℕ) → getD o i 0 < 256) → littleEndian (length o) (littleNumber o) ≡ o
+littleEndian-littleNumber [] f = refl
+littleEndian-littleNumber (x ∷ o) f =
+    let low : (x + 256 * littleNumber o) % 256 ≡ x = omega (arith, f 0) in
+    let high : (x + 256 * littleNumber o) / 256 ≡ littleNumber o = omega (arith, f 0) in
+    rw (low, high) (ap (λ (r : List ℕ). x ∷ r) (littleEndian-littleNumber o (λ i. f (suc i))))
 
 -- four octets of more, one by one
 pub take-drop-four : (o : List ℕ) (at k : ℕ) → at + 4 ≤ length o

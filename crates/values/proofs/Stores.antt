@@ -12,6 +12,7 @@ use lib.Signed.{mag}
 use lib.ListN.{length, getD, take, drop, set, replicate, length-append, length-set}
 use lib.Seq.{take-at, drop-at, drop-drop, sets, sets-eq, length-sets}
 use Rattle.values.specs.Values.{complement, uncomplement, littleNumber, valueOctets, listOctets, valuesFrom, valuesIn, setValue, storeAll}
+use Rattle.values.specs.TwosComplement.{Fitting}
 use Rattle.values.proofs.Complement.{complement-lt, uncomplement-complement}
 use Rattle.values.proofs.LittleEndian.{length-littleEndian, littleEndian-lt, littleNumber-littleEndian}
 
@@ -185,10 +186,6 @@ pub getD-valuesIn : (o : List ℕ) (i : ℕ) → i < length o / 8
     → getD (valuesIn o) i (pos 0) ≡ uncomplement (littleNumber (take 8 (drop (8 * i) o)))
 unfolding valuesIn
 getD-valuesIn o i h = getD-valuesFrom (length o / 8) o i h
-
--- every value fits 64 bits
-abbrev pub Fitting : List ℤ → Type 0
-Fitting vs = (i : ℕ) → mag (getD vs i (pos 0)) < 2 ^ 63
 
 pub fitting-cons : (v : ℤ) (vs : List ℤ) → mag v < 2 ^ 63 → Fitting vs → Fitting (v ∷ vs)
 fitting-cons v vs h f zero = h
