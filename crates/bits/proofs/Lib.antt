@@ -1,4 +1,5 @@
 pub mod Bits
+pub mod Width
 pub mod Splice
 pub mod Access
 pub mod Octets

@@ -1,3 +1,4 @@
 pub mod Bits
+pub mod Width
 pub mod Access
 pub mod Window

@@ -1,14 +1,18 @@
 -- What is shown of the built-in tables, each fact by one computation over the octets: the check passes each, where its root
 -- is, and that its octets are the rows of specs/Layout.antt.
-use mathlib.Core.Path.{_≡_, refl}
+use Prim.Native.Nat.{ℕ}
+use mathlib.Core.Path.{_≡_, refl, ap, subst}
+use mathlib.Core.List.{List}
 use Rattle.octets.specs.Numbers.{u16, u32, signed, u16s, there}
-use Rattle.table.specs.Rows.{rowOf, rowAt, rowLength}
+use Rattle.table.specs.Rows.{Row, rowOf, rowAt, rowLength}
 use Rattle.table.specs.Rules.{knownKind, within, flagsInBounds, numbersInBounds, branches, references, someBranch, hasBranch, Obeys}
-use Rattle.table.specs.Verdict.{passed, verdict, obeys, rowTest, rowDepth}
-use Rattle.table.specs.Root.{root, rootFrom}
+use Rattle.table.specs.Verdict.{passed, verdict, checked, obeys, rowTest, rowDepth}
+use Rattle.table.specs.Root.{root, rootFrom, IsRoot}
 use Rattle.table.proofs.Decides.{passes-exactly}
+use Rattle.table.proofs.LastRow.{root-is}
 use Rattle.builtin.specs.Tables.{lm, sam, srm}
 use Rattle.builtin.specs.Layout.{rowsFrom, rows, lmRows, samRows, srmRows}
+use Rattle.builtin.specs.Built.{Built, BuiltIn}
 
 -- ── each passes the check, and so obeys the rules ──
 
@@ -51,6 +55,20 @@ srm-root = all-roots .1 .1
 
 -- ── the octets are the rows that specs/Layout.antt lists ──
 
-pub all-rows : (rows lm ≡ lmRows) × ((rows sam ≡ samRows) × (rows srm ≡ srmRows))
+all-rows : (rows lm ≡ lmRows) × ((rows sam ≡ samRows) × (rows srm ≡ srmRows))
 unfolding lm sam srm lmRows samRows srmRows u16 u32 signed u16s rowOf rowAt rowsFrom rows
 all-rows = (refl, (refl, refl))
+
+-- ── together ──
+
+built : (t : List ℕ) (listed : List (ℕ × Row)) (last : ℕ) → verdict t ≡ passed → rows t ≡ listed → root t ≡ last → Built t listed last
+built t listed last p r e =
+    let h = passes-exactly t .0 p in
+    record { passes = ap (λ v. checked v) p; obeys = h; listed = r; root = subst (λ (o : ℕ). IsRoot t o) e (root-is t h) }
+
+pub built-in : BuiltIn
+built-in = record {
+  anLm = built lm lmRows 546 lm-passes (all-rows .0) lm-root;
+  aSam = built sam samRows 342 sam-passes (all-rows .1 .0) sam-root;
+  anSrm = built srm srmRows 180 srm-passes (all-rows .1 .1) srm-root;
+}

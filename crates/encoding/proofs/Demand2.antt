@@ -14,7 +14,7 @@ use Rattle.table.specs.Offsets.{earlier}
 use Rattle.table.specs.Rows.{Row, Number, Variable, FixedRun, CountedRun, Record, Choice, Octets, Unknown, rowOf, rowAt}
 use Rattle.table.specs.Rules.{All, Earlier, branches, references, Starts, Obeys}
 use Rattle.table.proofs.Offsets.{earlier-is, earlier-out}
-use Rattle.table.proofs.LastRow.{root-is}
+use Rattle.table.proofs.LastRow.{root-is, is-root}
 use Rattle.encoding.specs.Items.{stop, ask, times, encodingBits}
 use Rattle.encoding.specs.Rows.{presence, rowItems, items, asks}
 use Rattle.encoding.specs.Encoding.{size}
@@ -73,7 +73,7 @@ module _ (t : List ℕ) where
   demand2 = record {
     row = λ h o s. row-asks t h o s;
     last = λ h. root-is t h;
-    whole = refl;
+    whole = λ h o r. ap (items t) (sym (is-root t h o r));
     reads = λ h s m room vs n. (
       (λ e. let d = sym (read-passed t h s m room) ∙ e in
           (decode-stands (asks t) s room vs n m d, sym (decode-sound (asks t) s room (m .octets) vs n d .taken))),

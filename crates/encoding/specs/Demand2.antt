@@ -17,10 +17,11 @@ use Rattle.encoding.specs.Writing.{writeOutcome, written}
 use Rattle.encoding.specs.Demand3.{Message, Stands}
 
 pub record Demand2 (t : List ℕ) : Type 0 where
-  -- every row asks for what its kind says, of the rows that it refers to; the table for what its last row does
+  -- every row asks for what its kind says, of the rows that it refers to
   pub row : Obeys t → (o : ℕ) → Starts t o → items t o ≡ rowItems (items t) (rowAt t o)
+  -- there is a last row; and the table asks for what its last row does, wherever that stands
   pub last : Obeys t → IsRoot t (root t)
-  pub whole : asks t ≡ items t (root t)
+  pub whole : Obeys t → (o : ℕ) → IsRoot t o → asks t ≡ items t o
   -- a list and a count of bits are read exactly where the list stands for the octets and takes so many bits
   pub reads : Obeys t → (s : List ℕ) → Message s → (room : ℕ) (vs : List ℤ) (n : ℕ)
       → (readOutcome t s room ≡ accept vs n) ↔ (Stands (asks t) s room vs × (length (encodingBits (asks t) vs) ≡ n))

@@ -6,3 +6,4 @@ pub mod WholeOctet
 pub mod Integers
 pub mod Written
 pub mod Ranges
+pub mod Widths

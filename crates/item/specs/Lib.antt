@@ -3,3 +3,4 @@ pub mod Answers
 pub mod Steps
 pub mod Laws
 pub mod Ranges
+pub mod Widths

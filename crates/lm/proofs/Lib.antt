@@ -6,4 +6,3 @@ pub mod FirstOctet
 pub mod Demand3Lm
 pub mod Demand2
 pub mod UserData
-pub mod Demands

@@ -4,4 +4,3 @@ pub mod Cases
 pub mod Clause5
 pub mod Demand2
 pub mod UserData
-pub mod Demands

@@ -41,7 +41,7 @@ apart here (on l r) h n = reach-le r
 apart (on l r) here h n = absurd (n (omega (arith, reach-le r)))
 apart (on l r) (on l′ r′) h n = apart r r′ h n
 
-depth-row : (t : List ℕ) (o : ℕ) → depth t o ≡ suc (deepest (earlier 0 o (depth t)) (references (rowAt t o)))
+pub depth-row : (t : List ℕ) (o : ℕ) → depth t o ≡ suc (deepest (earlier 0 o (depth t)) (references (rowAt t o)))
 unfolding depth
 depth-row t o = byOffset-is 0 (λ o g. suc (deepest g (references (rowAt t o)))) o
 

@@ -1,5 +1,6 @@
 pub mod Offsets
 pub mod Decides
+pub mod Depths
 pub mod Obeyed
 pub mod LastRow
 pub mod Bools

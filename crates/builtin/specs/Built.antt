@@ -1,0 +1,24 @@
+-- What holds of the built-in tables (document 01, "LM, SAM and SRM": all three pass the check): each passes, obeys the rules, is the
+-- rows that Layout.antt lists and no others, and ends with its root. The proof is proofs/Tables.antt.
+use Prim.Native.Nat.{ℕ}
+use mathlib.Core.Path.{_≡_}
+use mathlib.Core.List.{List}
+use Rattle.answer.specs.Numbers.{accepted}
+use Rattle.table.specs.Rows.{Row}
+use Rattle.table.specs.Rules.{Obeys}
+use Rattle.table.specs.Verdict.{verdict, checked}
+use Rattle.table.specs.Root.{IsRoot}
+use Rattle.builtin.specs.Tables.{lm, sam, srm}
+use Rattle.builtin.specs.Layout.{rows, lmRows, samRows, srmRows}
+
+-- a table, the rows that it is, and the offset of the last
+pub record Built (table : List ℕ) (list : List (ℕ × Row)) (last : ℕ) : Type 0 where
+  pub passes : checked (verdict table) ≡ accepted 0 0 0
+  pub obeys : Obeys table
+  pub listed : rows table ≡ list
+  pub root : IsRoot table last
+
+pub record BuiltIn : Type 0 where
+  pub anLm : Built lm lmRows 546
+  pub aSam : Built sam samRows 342
+  pub anSrm : Built srm srmRows 180

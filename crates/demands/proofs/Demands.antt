@@ -1,0 +1,41 @@
+-- The demands, gathered from their proofs.
+-- Assumes nothing.
+use Rattle.bits.proofs.Width.{smallest-width}
+use Rattle.values.proofs.TwosComplement.{twos-complement}
+use Rattle.answer.proofs.Numbers.{inverse}
+use Rattle.item.proofs.CodeLaws.{item-laws}
+use Rattle.item.proofs.Ranges.{item-ranges}
+use Rattle.item.proofs.Widths.{item-widths}
+use Rattle.table.proofs.Depths.{depths}
+use Rattle.encoding.proofs.Demand2.{demand2}
+use Rattle.encoding.proofs.Demand3.{demand3}
+use Rattle.encoding.proofs.Demand3Octets.{demand3-octets}
+use Rattle.builtin.proofs.Tables.{built-in}
+use Rattle.lm.proofs.Demand3Lm.{demand3-lm}
+use Rattle.lm.proofs.Demand2.{demand2-lm}
+use Rattle.lm.proofs.UserData.{user-data-place}
+use Rattle.lm.proofs.Cases.{given}
+use Rattle.userdata.proofs.Placed.{user-data-placed}
+use Rattle.userdata.proofs.Cases.{user-data-cases}
+use Rattle.demands.specs.Demands.{Demands}
+
+pub demands : Demands
+demands = record {
+  rows = demand2;
+  layout = demand2-lm;
+  everyTable = demand3;
+  inOctets = demand3-octets;
+  anLm = demand3-lm;
+  answers = inverse;
+  depths = depths;
+  ranges = item-ranges;
+  width = smallest-width;
+  widths = item-widths;
+  items = item-laws;
+  octets = twos-complement;
+  builtIn = built-in;
+  userDataPlace = user-data-place;
+  userData = user-data-placed;
+  cases = given;
+  userDataCases = user-data-cases;
+}

@@ -1,0 +1,63 @@
+-- The demands as they are proved, in one place; the proof is proofs/Demands.antt. Each name below is a record whose fields are
+-- the demand's sentences, one by one. docs/CLAIMS.md goes through the customer's words and names the field for each.
+--
+-- Demand 1 is the contracts of the calls: none has a `requires`, and each says its answer and what every lent slice then holds.
+-- docs/CLAIMS.md lists them, and a test holds the list to the sources.
+-- The theorems here are about the definitions that those contracts cite (readCall, writeCall, valuesAfter, packedAfter,
+-- outputAfter, readLmCall, writeLmCall, userDataFound, verdict) and about document 01's rules, which mention no code.
+--
+-- Beside it stands what is said of the bench program's text: OneText, in bench's specs/Program.antt.
+use Prim.Native.Nat.{ℕ}
+use mathlib.Core.List.{List}
+use Rattle.bits.specs.Width.{SmallestWidth}
+use Rattle.values.specs.TwosComplement.{TwosComplement}
+use Rattle.answer.specs.Numbers.{Inverse}
+use Rattle.item.specs.Code.{Code}
+use Rattle.item.specs.Laws.{ItemLaws}
+use Rattle.item.specs.Ranges.{ItemRanges}
+use Rattle.item.specs.Widths.{ItemWidths}
+use Rattle.table.specs.Depths.{Depths}
+use Rattle.encoding.specs.Demand2.{Demand2}
+use Rattle.encoding.specs.Demand3.{Demand3}
+use Rattle.encoding.specs.Demand3Octets.{AreOctets, Demand3Octets}
+use Rattle.builtin.specs.Built.{BuiltIn}
+use Rattle.lm.specs.Demand3Lm.{Demand3Lm}
+use Rattle.lm.specs.Demand2.{Demand2Lm}
+use Rattle.lm.specs.UserData.{UserDataPlace}
+use Rattle.lm.specs.Cases.{Given}
+use Rattle.userdata.specs.Placed.{UserDataPlaced}
+use Rattle.userdata.specs.Cases.{UserDataCases}
+
+pub record Demands : Type 1 where
+  -- ── demand 2 ──
+  -- under any octets that are lent as a table and obey the rules
+  pub rows : (t : List ℕ) → Demand2 t
+  -- for an LM: it is the layout of clause 5
+  pub layout : Demand2Lm
+  -- ── demand 3 ──
+  -- for any octets that are lent as a table, with the tables of SAM and SRM among them
+  pub everyTable : (t : List ℕ) → Demand3 t
+  -- the same for lists as octets, as a host has them
+  pub inOctets : (t : List ℕ) → AreOctets t → Demand3Octets t
+  -- for an LM asked for by name, with version 3
+  pub anLm : Demand3Lm
+  -- ── document 01's own sentences behind them ──
+  -- an answer is what its number, place and counts are, and nothing else
+  pub answers : Inverse
+  -- what a row's depth is
+  pub depths : (t : List ℕ) → Depths t
+  -- the bits of each kind of item: which values, how many bits, and that one can be told from the other
+  pub ranges : ItemRanges
+  pub width : SmallestWidth
+  pub widths : ItemWidths
+  pub items : (c : Code) → ItemLaws c
+  -- a host's eight octets for a value
+  pub octets : TwosComplement
+  -- the three built-in tables pass, and are the rows that are listed
+  pub builtIn : BuiltIn
+  -- the user data of an LM: where it stands, and what its calls give
+  pub userDataPlace : UserDataPlace
+  pub userData : UserDataPlaced
+  -- the twelve marked cases, and where the user data stands in those that are LMs
+  pub cases : Given
+  pub userDataCases : UserDataCases

@@ -1,0 +1,1 @@
+// The crate gathers what is proved of the demands, in one record. Nothing runs here.
