@@ -5,7 +5,7 @@ use std::time::Instant;
 
 use teyolxan_host::api;
 use teyolxan_host::archive::{Archive, ARCHIVE, CALLS};
-use teyolxan_host::codec::{Answer, Codec, Refusal};
+use teyolxan_host::codec::{Answer, Bits, Codec, Refusal};
 use teyolxan_host::compare::compare;
 use teyolxan_host::guarded::Guarded;
 use teyolxan_host::reference::REFERENCE;
@@ -138,4 +138,40 @@ fn lists_are_lent_in_place() {
     };
     assert_eq!(api::read(&table, &[0, 0], &mut values), refused);
     assert_eq!(values, [0; 3]);
+}
+
+/// Of no bits none is missing, wherever the place is; of one, one is.
+#[test]
+fn bits_are_taken_beyond_the_end_where_there_are_none() {
+    let message = [0x03, 0x00, 0x20, 0x02, 0x48, 0x69];
+    for place in [48, 49, 1 << 20, usize::MAX] {
+        let none = Bits {
+            number: 0,
+            place: place as u64,
+        };
+        assert_eq!(ARCHIVE.take_at(&message, place, 0), Ok(none));
+        let short = Refusal::new(Refusal::SHORT, place);
+        assert_eq!(ARCHIVE.take_at(&message, place, 1), Err(short));
+        let wide = Refusal::new(Refusal::ABOVE_MOST, place);
+        assert_eq!(ARCHIVE.take_at(&message, place, 33), Err(wide));
+    }
+}
+
+/// A number -128 to 127 under a lent table: -1 is eight octets FF, and they are written as -1 again,
+/// whatever fewer than eight octets follow them.
+#[test]
+fn minus_one_is_eight_octets_ff() {
+    let table = [12, 0, 1, 0, 0x80, 0xff, 0xff, 0xff, 0xff, 0, 0, 0];
+    for more in 0..8 {
+        let mut values = vec![0x55; 8 + more];
+        let answer = api::read_octets(&table, &[0x7f], &mut values);
+        assert!(matches!(answer, Answer::Accepted { values: 1, .. }));
+        assert_eq!(values[..8], [0xff; 8]);
+        assert!(values[8..].iter().all(|octet| *octet == 0));
+        values[8..].fill(0xaa);
+        let mut output = [0x55; 2];
+        let answer = api::write_octets(&table, &values, &mut output);
+        assert!(matches!(answer, Answer::Accepted { octets: 1, .. }));
+        assert_eq!(output, [0x7f, 0]);
+    }
 }

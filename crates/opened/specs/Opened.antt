@@ -1,11 +1,11 @@
 -- What an opened message holds, what opening answers, and what taking k bits at a place gives, for every message, place and k
 -- (document 01, "An opened message keeps the lent octets and a bit place together").
-use Prim.Native.Nat.{ℕ}
+use Prim.Native.Nat.{ℕ, _+_, _-_, _*_}
 use mathlib.Core.Bool.{cond}
 use mathlib.Core.List.{List, []}
-use lib.Dec.{ltb}
-use lib.ListN.{length}
-use Rattle.bits.specs.Access.{fetched}
+use lib.Dec.{leb, ltb}
+use lib.ListN.{length, take, drop}
+use Rattle.bits.specs.Bits.{numberOf, unpack}
 use Rattle.bits.specs.declared.Fetched.{Fetched}
 use Rattle.bits.specs.declared.Fetched.the-variants.{Bits, Short}
 use Rattle.answer.specs.declared.Answer.{Answer}
@@ -28,16 +28,19 @@ took n next = Number n (record { 0 = next })
 abbrev pub refusedAt : ℕ → ℕ → Taken
 refusedAt number p = Refused (record { number = number; place = p })
 
--- what was fetched at p, as an answer
-abbrev pub ofFetched : ℕ → Fetched → Taken
-ofFetched p (Bits n next) = took n (next .0)
-ofFetched p Short = refusedAt messageEnds p
-
--- k bits taken at p: above 32 is 6, then too few bits is 2
+-- k bits taken at p: above 32 is 6, then too few bits is 2, which are those from p on; of no bits none is missing, anywhere
 abbrev pub taken : List ℕ → ℕ → ℕ → Taken
-taken m p k = cond (ltb 32 k) (refusedAt aboveMost p) (ofFetched p (fetched m p k))
+taken m p k =
+    cond (ltb 32 k) (refusedAt aboveMost p)
+    (cond (leb k (8 * length m - p)) (took (numberOf (take k (drop p (unpack m)))) (p + k)) (refusedAt messageEnds p))
 
 -- the place after: k on, or where it was
 abbrev pub placeOf : Taken → ℕ
 placeOf (Number n next) = next .0
 placeOf (Refused r) = r .place
+
+-- ── for the private functions: what bits::fetch gives at p, as an answer ──
+
+abbrev pub ofFetched : ℕ → Fetched → Taken
+ofFetched p (Bits n next) = took n (next .0)
+ofFetched p Short = refusedAt messageEnds p

@@ -67,12 +67,16 @@ fn of_fetched(place: BitPlace, fetched: Fetched) -> Taken
     }
 }
 
-// Takes k bits at a place of the octets that are held. A place beyond the end is 2 at that place, for every k to 32.
+// Takes k bits at a place of the octets that are held. A place beyond the end is 2 at that place, but for no bits: of them none
+// is missing anywhere.
 pub fn take_from(message: &[u8], place: BitPlace, k: u32) -> Taken
     ensures { λ r. ⌜ r ≡ taken (kept (now (message .entry))) (place .0) k ⌝ }
 {
     if MOST_BITS < k {
         return refused(Refusal::ABOVE_MOST, place);
+    }
+    if k == 0 {
+        return Taken::Number(0, place);
     }
     of_fetched(place, bits::fetch(held(message), place, k))
 }

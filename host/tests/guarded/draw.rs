@@ -113,7 +113,7 @@ impl Codec for ByName<'_> {
     }
 }
 
-/// What taking k bits at a place gives (document 01; docs/DECISIONS.md for places beyond the end).
+/// What taking k bits at a place gives (document 01; of no bits none is missing, wherever the place is).
 fn taken(message: &[u8], place: usize, k: u32) -> Result<Bits, Refusal> {
     if k > 32 {
         return Err(Refusal::new(Refusal::ABOVE_MOST, place));
@@ -122,16 +122,15 @@ fn taken(message: &[u8], place: usize, k: u32) -> Result<Bits, Refusal> {
         0..=MESSAGE_MOST => 8 * message.len(),
         _ => 0,
     };
-    match place.checked_add(k as usize) {
-        Some(next) if next <= held => {
-            let bit = |at: usize| u64::from(message[at / 8] >> (7 - at % 8) & 1);
-            Ok(Bits {
-                number: (place..next).fold(0, |number, at| number << 1 | bit(at)),
-                place: next as u64,
-            })
-        }
-        _ => Err(Refusal::new(Refusal::SHORT, place)),
+    if k as usize > held.saturating_sub(place) {
+        return Err(Refusal::new(Refusal::SHORT, place));
     }
+    let next = place + k as usize;
+    let bit = |at: usize| u64::from(message[at / 8] >> (7 - at % 8) & 1);
+    Ok(Bits {
+        number: (place..next).fold(0, |number, at| number << 1 | bit(at)),
+        place: next as u64,
+    })
 }
 
 /// A call: half of them as the comparison draws them, which are mostly short and nearly right.
