@@ -56,6 +56,7 @@ twos-complement = record {
   octets = λ v i. littleEndian-lt 8 (complement v) i;
   natural = λ n h. spelled (pos n) (omega arith);
   negative = λ n h. let e = spelled (negsuc n) (omega arith) in omega (arith, e);
+  one = refl;
   minus-one = refl;
   back = λ vs f rest h. valuesIn-listOctets vs rest f ∙ ap (λ (r : List ℤ). vs ++ r) (none-in rest h) ∙ append-nil vs;
   again = λ o f. eights-again (length o / 8) o (omega arith) f;

@@ -20,6 +20,8 @@ pub record TwosComplement : Type 0 where
   pub natural : (n : ℕ) → n < 2 ^ 63 → littleNumber (valueOctets (pos n)) ≡ n
   -- below 0 they spell what it and 2 ^ 64 add up to: -(n + 1), which is negsuc n, is 2 ^ 64 less n + 1
   pub negative : (n : ℕ) → n < 2 ^ 63 → littleNumber (valueOctets (negsuc n)) + suc n ≡ 2 ^ 64
+  -- 1 is the octet 01, then seven of 00
+  pub one : valueOctets (pos 1) ≡ 0x01 ∷ 0x00 ∷ 0x00 ∷ 0x00 ∷ 0x00 ∷ 0x00 ∷ 0x00 ∷ 0x00 ∷ []
   -- -1 is eight octets FF
   pub minus-one : valueOctets (negsuc 0) ≡ 0xff ∷ 0xff ∷ 0xff ∷ 0xff ∷ 0xff ∷ 0xff ∷ 0xff ∷ 0xff ∷ []
   -- a list comes back from its octets; fewer than eight behind them hold no value
