@@ -1,3 +1,4 @@
 mod AtHand
 mod OneText
 mod Runs
+mod Tags

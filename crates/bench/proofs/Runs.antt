@@ -19,7 +19,7 @@ use Rattle.bench.specs.declared.State.{State}
 use Rattle.bench.specs.declared.Led.{Led}
 use Rattle.bench.specs.declared.Led.the-variants.{Next, End, Bad, Lost}
 use Rattle.bench.specs.Held.{atHand, counted, afterFrame}
-use Rattle.bench.specs.Turns.{Came, Turned, wrote, took, read, stopped, octetsOf, textOf, linesOf, lastText}
+use Rattle.bench.specs.Turns.{afterLines, readTo, afterRead, Turned, wrote, took, read, stopped, octetsOf, textOf, linesOf, lastText}
 use Rattle.bench.specs.Program.{Gives, frame, bad, cut, over, Ran, start, turn, Ended}
 
 -- ---- a whole frame stays one, whatever comes behind it
@@ -53,7 +53,7 @@ message-append : (s t : List ℕ) (size : ℕ) → 4 ≤ size → size ≤ lengt
 message-append s t size least within =
     rw (drop-append-le 4 s t (omega arith), take-append-le (size - 4) (drop 4 s) t (omega (arith, length-drop 4 s)))
 
--- ---- the octets at hand after a frame, and after reading
+-- ---- the octets at hand after a frame
 
 drop-take : (m n : ℕ) (l : List ℕ) → drop m (take n l) ≡ take (n - m) (drop m l)
 drop-take zero n l = rw (sub-zero n)
@@ -66,11 +66,6 @@ hand-after s input size lines =
     let e : s .end - s .from - size ≡ s .end - (s .from + size) = omega arith in
     drop-take size (s .end - s .from) (drop (s .from) input) ∙ rw (drop-drop size (s .from) input, e)
 
-hand-came : {s r : State} {octets came input : List ℕ} → Came s octets came input r → atHand r input ≡ octets ++ came
-hand-came {s} {r} {octets} {came} {input} c =
-    let from-is : r .from ≡ 0 = ap (λ (x : State). x .from) (c .state) in
-    rw (from-is, sub-zero (r .end)) (c .first)
-
 -- ---- the invariant
 
 abbrev Told : List ℕ → List ℕ → List ℕ → List ℕ → Led → Type 0
@@ -79,11 +74,6 @@ Told octets text input output (Next s) =
 Told octets text input output (End s) = Gives 0 0 octets (text ++ (take (s .lines) output ++ lastText (End s)))
 Told octets text input output (Bad s) = Gives 0 0 octets (text ++ (take (s .lines) output ++ lastText (Bad s)))
 Told octets text input output Lost = Unit {0}
-
--- lines that are written are no longer held
-written : {octets : List ℕ} (text held rest output : List ℕ) (lines : ℕ) → lines ≡ 0
-    → Gives 0 0 octets (text ++ (held ++ rest)) → Gives 0 0 octets ((text ++ held) ++ (take lines output ++ rest))
-written text held rest output lines e g = rw (e, append-assoc text held rest) g
 
 module _ (octets text input output : List ℕ) (s : State) (so : Told octets text input output (Next s)) where
   told-frame : {size kind lines : ℕ} {output′ : List ℕ} → firstFrame (atHand s input) ≡ front.Whole size kind
@@ -101,45 +91,34 @@ module _ (octets text input output : List ℕ) (s : State) (so : Told octets tex
       rw (line .told, append-assoc (take (s .lines) output) text′ rest)
       (so more (text′ ++ rest) (rw (message-append hand more size (within .0) (within .1)) at all))
 
-  told-more : {r : State} {came input′ : List ℕ} (output′ : List ℕ) → Came s (atHand s input) came input′ r
-      → Told (octets ++ came) (text ++ take (s .lines) output) input′ output′ (Next r)
-  told-more {r} {came} output′ c more rest g =
-      let offset-is : r .offset ≡ s .offset = ap (λ (x : State). x .offset) (c .state) in
-      let frames-is : r .frames ≡ s .frames = ap (λ (x : State). x .frames) (c .state) in
-      let lines-is : r .lines ≡ 0 = ap (λ (x : State). x .lines) (c .state) in
-      rw (append-assoc octets came more)
-      (written text (take (s .lines) output) rest output′ (r .lines) lines-is (so (came ++ more) rest (rw (offset-is, frames-is, hand-came c, append-assoc (atHand s input) came more) at g)))
+  told-more : (came input′ output′ : List ℕ) → take (length (atHand s input) + length came) input′ ≡ atHand s input ++ came
+      → Told (octets ++ came) (text ++ take (s .lines) output) input′ output′ (Next (readTo (afterLines s) (length (atHand s input)) (length came)))
+  told-more came input′ output′ first more rest g =
+      let hand = atHand s input in
+      rw (append-assoc octets came more, append-assoc text (take (s .lines) output) rest)
+      (so (came ++ more) rest (rw (sub-zero (length hand + length came), first, append-assoc hand came more) at g))
 
-  -- the input ended: inside a frame, or after the last
-  told-cut : {r : State} {came input′ : List ℕ} (output′ : List ℕ) → Came s (atHand s input) came input′ r → firstFrame (atHand s input) ≡ front.Part
-      → 0 < length (atHand s input) → came ≡ []
-      → Told (octets ++ came) (text ++ take (s .lines) output) input′ output′ (Bad r)
-  told-cut {r} {came} output′ c part some none =
-      let offset-is : r .offset ≡ s .offset = ap (λ (x : State). x .offset) (c .state) in
-      let frames-is : r .frames ≡ s .frames = ap (λ (x : State). x .frames) (c .state) in
-      let lines-is : r .lines ≡ 0 = ap (λ (x : State). x .lines) (c .state) in
-      rw (none, offset-is, frames-is)
-      (written text (take (s .lines) output) _ output′ (r .lines) lines-is (so [] _ (rw (append-nil (atHand s input)) (cut part some))))
+  -- the input ended: after the last frame, or inside one
+  told-end : (hand input′ output′ : List ℕ) → atHand s input ≡ hand → firstFrame (atHand s input) ≡ front.Part
+      → Told (octets ++ []) (text ++ take (s .lines) output) input′ output′ (afterRead (afterLines s) (length hand) 0)
+  told-end [] input′ output′ e part = rw (append-assoc text (take (s .lines) output) _) (so [] _ (rw (append-nil (atHand s input), e) over))
+  told-end (x ∷ hand) input′ output′ e part =
+      let some : 0 < length (atHand s input) = rw e (omega arith) in
+      rw (append-assoc text (take (s .lines) output) _) (so [] _ (rw (append-nil (atHand s input)) (cut part some)))
 
-  told-over : {r : State} {came input′ : List ℕ} (output′ : List ℕ) → Came s (atHand s input) came input′ r → atHand s input ≡ [] → came ≡ []
-      → Told (octets ++ came) (text ++ take (s .lines) output) input′ output′ (End r)
-  told-over {r} {came} output′ c empty none =
-      let frames-is : r .frames ≡ s .frames = ap (λ (x : State). x .frames) (c .state) in
-      let lines-is : r .lines ≡ 0 = ap (λ (x : State). x .lines) (c .state) in
-      rw (none, frames-is)
-      (written text (take (s .lines) output) _ output′ (r .lines) lines-is (so [] _ (rw (append-nil (atHand s input), empty) over)))
+  told-read : (came input′ output′ : List ℕ) → firstFrame (atHand s input) ≡ front.Part
+      → take (length (atHand s input) + length came) input′ ≡ atHand s input ++ came
+      → Told (octets ++ came) (text ++ take (s .lines) output) input′ output′ (afterRead (afterLines s) (length (atHand s input)) (length came))
+  told-read [] input′ output′ part first = told-end (atHand s input) input′ output′ refl part
+  told-read (x ∷ came) input′ output′ part first = told-more (x ∷ came) input′ output′ first
 
   told-turn : {input′ output′ : List ℕ} (r : Led) (t : Turned s input output input′ output′ r) → Told (octets ++ octetsOf t) (text ++ textOf t) input′ output′ r
-  told-turn {input′} {output′} (Next r) (wrote many same w) =
-      rw (same, w, append-nil octets) (λ more rest g. written text (take (s .lines) output) rest output′ 0 refl (so more rest g))
-  told-turn (End r) (wrote many same w) = absurd w
-  told-turn (Bad r) (wrote many same w) = absurd w
-  told-turn Lost (wrote many same w) = tt
+  told-turn r (wrote many same (true, is)) =
+      rw (is, same, append-nil octets) (λ more rest g. rw (append-assoc text (take (s .lines) output) rest) (so more rest g))
+  told-turn r (wrote many same (false, is)) = rw is tt
   told-turn r (took room size kind next whole same line is) = rw (is, same, append-nil octets, append-nil text, line .state) (told-frame whole (line .line))
-  told-turn {input′} {output′} (Next r) (read room part came got) = told-more output′ (got .0)
-  told-turn {input′} {output′} (End r) (read room part came got) = told-over output′ (got .0) (got .1) (got .2)
-  told-turn {input′} {output′} (Bad r) (read room part came got) = told-cut output′ (got .0) part (got .1) (got .2)
-  told-turn Lost (read room part came got) = tt
+  told-turn {input′} {output′} r (read room part (true, came, got)) = rw (got .0) (told-read came input′ output′ part (got .1))
+  told-turn r (read room part (false, came, got)) = rw (got .0) tt
   told-turn r (stopped room none same still is) =
       rw (is, still, append-nil text) (so [] _ (rw (append-nil (atHand s input)) (bad none)))
 

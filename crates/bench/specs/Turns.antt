@@ -1,6 +1,7 @@
 -- What a turn of the bench program leads to, and what is told where the turns end (document 01, "The bench program").
-use Prim.Native.Nat.{ℕ, _+_, _≤_, _<_}
+use Prim.Native.Nat.{ℕ, zero, suc, _+_, _≤_, _<_}
 use mathlib.Core.Path.{_≡_}
+use mathlib.Core.Bool.{Bool, true, false, cond}
 use mathlib.Core.List.{List, [], _++_}
 use lib.ListN.{length, take}
 use Rattle.lines.specs.Text.{Appended}
@@ -20,32 +21,41 @@ pub record Took (s : State) (octets : List ℕ) (size kind : ℕ) (output output
 abbrev pub afterLines : State → State
 afterLines s = record { from = s .from; end = s .end; lines = 0; offset = s .offset; frames = s .frames }
 
--- The lines are written, or the output takes no more: nothing here says when.
+-- What follows a write of the lines: the output took them all, or it takes no more, and the program gives up.
+abbrev pub afterWrite : Bool → State → Led
+afterWrite true s = Next (afterLines s)
+afterWrite false s = Lost
+
+-- The lines were handed to the output: nothing here says when it takes them.
 abbrev pub Wrote : State → Led → Type 0
-Wrote s (Next r) = r ≡ afterLines s
-Wrote s (End r) = ⊥
-Wrote s (Bad r) = ⊥
-Wrote s Lost = Unit {0}
+Wrote s r = (written : Bool) × (r ≡ afterWrite written s)
 
--- Octets came behind those at hand, which are now the first of the input; the counts stay, and no line is held.
-pub record Came (s : State) (octets came input′ : List ℕ) (r : State) : Type 0 where
-  pub state : r ≡ record { from = 0; end = length octets + length came; lines = 0; offset = s .offset; frames = s .frames }
-  pub first : take (r .end) input′ ≡ octets ++ came
+-- what is held once a count of octets came behind so many, which are the first of the input
+abbrev pub readTo : State → ℕ → ℕ → State
+readTo s have count = record { from = 0; end = have + count; lines = s .lines; offset = s .offset; frames = s .frames }
 
--- The lines are written and input is read: some came, or it ended inside a frame, or after the last.
-abbrev pub Read : State → List ℕ → List ℕ → List ℕ → Led → Type 0
-Read s octets came input′ (Next r) = Came s octets came input′ r × (0 < length came)
-Read s octets came input′ (Bad r) = Came s octets came input′ r × (0 < length octets) × (came ≡ [])
-Read s octets came input′ (End r) = Came s octets came input′ r × (octets ≡ []) × (came ≡ [])
-Read s octets came input′ Lost = Unit {0}
+-- What follows a read: some octets came; or the input ended, inside a frame or after the last.
+abbrev pub afterRead : State → ℕ → ℕ → Led
+afterRead s have (suc count) = Next (readTo s have (suc count))
+afterRead s (suc have) zero = Bad (readTo s (suc have) zero)
+afterRead s zero zero = End (readTo s zero zero)
+
+-- Where the output took the lines, octets came behind those at hand, which are now the first of the input. Else nothing is read.
+abbrev pub Came : Bool → State → List ℕ → List ℕ → List ℕ → Led → Type 0
+Came true s input came input′ r =
+    (r ≡ afterRead (afterLines s) (length (atHand s input)) (length came)) × (take (length (atHand s input) + length came) input′ ≡ atHand s input ++ came)
+Came false s input came input′ r = (r ≡ afterWrite false s) × (came ≡ []) × (input′ ≡ input)
+
+-- The lines were handed to the output, and then input was read.
+abbrev pub Read : State → List ℕ → List ℕ → Led → Type 0
+Read s input input′ r = (written : Bool) × (came : List ℕ) × Came written s input came input′ r
 
 -- A turn: lines are written where there are many; else it goes by what the octets at hand begin with.
 pub data Turned (s : State) (input output input′ output′ : List ℕ) (r : Led) : Type 0 where
   wrote : 32768 < s .lines → input′ ≡ input → Wrote s r → Turned s input output input′ output′ r
   took : s .lines ≤ 32768 → (size kind : ℕ) (next : State) → firstFrame (atHand s input) ≡ front.Whole size kind → input′ ≡ input
       → Took s (atHand s input) size kind output output′ next → r ≡ Next next → Turned s input output input′ output′ r
-  read : s .lines ≤ 32768 → firstFrame (atHand s input) ≡ front.Part
-      → (came : List ℕ) → Read s (atHand s input) came input′ r → Turned s input output input′ output′ r
+  read : s .lines ≤ 32768 → firstFrame (atHand s input) ≡ front.Part → Read s input input′ r → Turned s input output input′ output′ r
   stopped : s .lines ≤ 32768 → firstFrame (atHand s input) ≡ front.Bad → input′ ≡ input → output′ ≡ output
       → r ≡ Bad s → Turned s input output input′ output′ r
 
@@ -53,14 +63,14 @@ pub data Turned (s : State) (input output input′ output′ : List ℕ) (r : Le
 abbrev pub octetsOf : {s : State} {input output input′ output′ : List ℕ} {r : Led} → Turned s input output input′ output′ r → List ℕ
 octetsOf (wrote _ _ _) = []
 octetsOf (took _ _ _ _ _ _ _ _) = []
-octetsOf (read _ _ came _) = came
+octetsOf (read _ _ got) = got .1
 octetsOf (stopped _ _ _ _ _) = []
 
--- the text that a turn wrote: the lines that were held
+-- the text that a turn wrote: the lines that were held, where the output took them
 abbrev pub textOf : {s : State} {input output input′ output′ : List ℕ} {r : Led} → Turned s input output input′ output′ r → List ℕ
-textOf {s} {input} {output} (wrote _ _ _) = take (s .lines) output
+textOf {s} {input} {output} (wrote _ _ handed) = cond (handed .0) (take (s .lines) output) []
 textOf (took _ _ _ _ _ _ _ _) = []
-textOf {s} {input} {output} (read _ _ _ _) = take (s .lines) output
+textOf {s} {input} {output} (read _ _ got) = cond (got .0) (take (s .lines) output) []
 textOf (stopped _ _ _ _ _) = []
 
 -- the end of the lines that are held where the turns end

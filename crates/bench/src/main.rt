@@ -1,13 +1,12 @@
 // The bench program (document 01): frames from standard input, a line for each on standard output, and the count of frames last.
 // The input is read as a stream into one buffer that holds any frame whole. Lines are written before the program waits for input.
 use frames::Frame;
-ghost use Prim.Native.Nat.{ℕ, _+_, _-_, _<_, _≤_, min};
+ghost use Prim.Native.Nat.{_+_, _-_, _<_, _≤_, min};
 ghost use mathlib.Core.Path.{_≡_};
-ghost use mathlib.Core.List.{List};
 ghost use lib.ListN.{length, take, drop};
 ghost use Rattle.lines.specs.Text.{Appended};
 ghost use Rattle.bench.specs.Held.{Held, HeldAfter, atHand, afterFrame};
-ghost use Rattle.bench.specs.Turns.{Took, Wrote, Read, Turned, linesOf, lastText};
+ghost use Rattle.bench.specs.Turns.{Took, Wrote, Read, Turned, afterWrite, afterRead, linesOf, lastText};
 ghost use Rattle.bench.specs.Program.{Finished, Answered};
 
 // The buffers: a frame has at most 65,535 octets, and a line of 1,024 values fewer than 22,600.
@@ -81,41 +80,31 @@ fn write(output: &[u8], lines: usize) -> bool
     io::write_all(1, &output[..lines])
 }
 
+// What follows once the lines that are held were handed to the output: it took them all, or it takes no more.
+fn after_write(written: bool, s: State) -> Led
+    ensures { λ r. ⌜ r ≡ afterWrite written s ⌝ }
+{
+    let mut next = s;
+    next.lines = 0;
+    if written { Led::Next(next) } else { Led::Lost }
+}
+
 // Writes the lines that are held.
 fn flush(output: &[u8], s: State) -> Led
     requires { ⌜ Held s × (length (now output) ≡ 65536) ⌝ }
     ensures { λ r. ⌜ HeldAfter r × Wrote s r ⌝ }
 {
-    if !write(output, s.lines) {
-        return Led::Lost;
-    }
-    let mut next = s;
-    next.lines = 0;
-    Led::Next(next)
+    after_write(write(output, s.lines), s)
 }
 
-// Writes the lines that are held, and reads more of the input behind the octets at hand. There is room for some, so that none
-// read is the input's end.
-fn more(input: &mut [u8], output: &[u8], s: State) -> Led
-    requires { ⌜ Held s × (s .end < s .from + 65535) × (length (now input) ≡ 65536) × (length (now output) ≡ 65536) ⌝ }
-    ensures { λ r. ⌜ HeldAfter r × ((came : List ℕ) × Read s (atHand s (now (input .entry))) came (now (input .exit)) r) ⌝ }
+// What follows once a count of octets was read behind those at hand, which stand at the front and are so many.
+fn after_read(s: State, have: usize, count: usize) -> Led
+    requires { ⌜ have + count ≤ 65536 ⌝ }
+    ensures { λ r. ⌜ r ≡ afterRead s have count ⌝ }
 {
-    if !write(output, s.lines) {
-        return Led::Lost;
-    }
-    let from = s.from;
-    let end = s.end;
-    move_down(input, from, end);
-    let have = end - from;
-    let got = libc::read(0, &mut input[have..]);
-    let count = io::count(got, &input[have..]);
-    let next = State {
-        from: 0,
-        end: have + count,
-        lines: 0,
-        offset: s.offset,
-        frames: s.frames,
-    };
+    let mut next = s;
+    next.from = 0;
+    next.end = have + count;
     if 0 < count {
         Led::Next(next)
     } else if 0 < have {
@@ -123,6 +112,25 @@ fn more(input: &mut [u8], output: &[u8], s: State) -> Led
     } else {
         Led::End(next)
     }
+}
+
+// Writes the lines that are held, and reads more of the input behind the octets at hand. There is room for some, so that none
+// read is the input's end.
+fn more(input: &mut [u8], output: &[u8], s: State) -> Led
+    requires { ⌜ Held s × (s .end < s .from + 65535) × (length (now input) ≡ 65536) × (length (now output) ≡ 65536) ⌝ }
+    ensures { λ r. ⌜ HeldAfter r × Read s (now (input .entry)) (now (input .exit)) r ⌝ }
+{
+    let flushed = flush(output, s);
+    let Led::Next(next) = flushed else {
+        return flushed;
+    };
+    let from = s.from;
+    let end = s.end;
+    move_down(input, from, end);
+    let have = end - from;
+    let got = libc::read(0, &mut input[have..]);
+    let count = io::count(got, &input[have..]);
+    after_read(next, have, count)
 }
 
 // Puts the line of the whole frame at hand, of a size and a kind.

@@ -3,7 +3,6 @@
 use Prim.Native.Nat.{ℕ, _+_, _-_, _<_}
 use mathlib.Core.Path.{_≡_, refl, _∙_}
 use mathlib.Core.List.{List, []}
-use mathlib.Core.Logic.{_⊎_, inl, inr}
 use native.Mathlib.Omega.{arith}
 use borrow.Author.Needs.{needs}
 use denote.Ref.{now}
@@ -13,6 +12,7 @@ use Rattle.bench.specs.declared.Led.the-variants.{Next}
 use Rattle.bench.specs.Held.{Held}
 use Rattle.bench.specs.Turns.{Turned}
 use Rattle.bench.specs.Program.{Ran, start, turn}
+use Rattle.bench.proofs.Tags.{no-tag}
 use Rattle.bench.proofs.run.Statement.{statement}
 use Rattle.bench.proofs.run.Tie as tie
 
@@ -27,12 +27,6 @@ record Running (input output : List ℕ) (s : State) (left : ℕ) : Type 0 where
 more : {input output input′ output′ : List ℕ} {s r : State} {left : ℕ} → Running input output s left
     → Turned s input output input′ output′ (Next r) → 0 < left → Running input′ output′ r (left - 1)
 more so t h = record { octets = _; text = _; done = so .done + 1; ran = turn (so .ran) t; sum = omega (arith, so .sum) }
-
--- a result that is not `Next`
-no-tag : (_≡_ {A = ℕ} 0 1) ⊎ ((_≡_ {A = ℕ} 0 2) ⊎ (_≡_ {A = ℕ} 0 3)) → ⊥
-no-tag (inl e) = omega arith
-no-tag (inr (inl e)) = omega arith
-no-tag (inr (inr e)) = omega arith
 
 abbrev Inv-loop : tie.InvT-loop
 Inv-loop input₀ output₀ values₀ s₀ turns₀ input output values s turns = Held s × (length input ≡ 65536) × (length output ≡ 65536) × (length values ≡ 1024) × Running input output s turns

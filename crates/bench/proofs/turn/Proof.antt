@@ -46,7 +46,7 @@ returns-3 : tie.Need-returns-3
 returns-3 c =
     let m = c .before .before .more .ensures in
     let known = c .before .before .before .before .before in
-    (m .0, read (known .before .before .before .before .before .if1 .left) (sym (known .before .before .first .ensures .0) ∙ known .enum-told .given .1) (m .1 .0) (m .1 .1))
+    (m .0, read (known .before .before .before .before .before .if1 .left) (sym (known .before .before .first .ensures .0) ∙ known .enum-told .given .1) (m .1))
 
 returns-4 : tie.Need-returns-4
 returns-4 c =
