@@ -12,7 +12,7 @@ use Rattle.octets.specs.Numbers.{u16, u16s}
 use Rattle.octets.proofs.Numbers.{length-u16s}
 use Rattle.table.specs.Rows.{rowOf, rowLength}
 use Rattle.table.specs.Rules.{within, knownKind, numbersInBounds, flagsInBounds, references}
-use Rattle.table.specs.Kinds.{byKind, lengthOf, hasCount, leastCount, mostCount, countOf, referenceCount, referenceStep, flagCount}
+use Rattle.table.specs.Kinds.{byKind, lengthOf, hasCount, leastCount, mostCount, countOf, referenceCount, referenceStep, mayReserve, flagCount}
 use Rattle.table.specs.Steps.{kept}
 use Rattle.table.proofs.Bools.{and-true, within-inside, inside-within, below-within, above-within}
 
@@ -163,12 +163,12 @@ module _ (t : List ℕ) (o : ℕ) where
 
   -- its references
   pub row-references : (k : ℕ) → within 1 7 k ≡ true
-      → references (rowOf t o k) ≡ kept (eqb k 6) (u16s t (o + 6) (referenceStep k) (referenceCount k (countOf t o k)))
+      → references (rowOf t o k) ≡ kept (mayReserve k) (u16s t (o + 6) (referenceStep k) (referenceCount k (countOf t o k)))
   unfolding references rowOf byKind kept referenceStep referenceCount countOf within u16s
   row-references k h = go (kindOf k) h
     where
       go : {k : ℕ} → Kind k → within 1 7 k ≡ true
-          → references (rowOf t o k) ≡ kept (eqb k 6) (u16s t (o + 6) (referenceStep k) (referenceCount k (countOf t o k)))
+          → references (rowOf t o k) ≡ kept (mayReserve k) (u16s t (o + 6) (referenceStep k) (referenceCount k (countOf t o k)))
       go number h = refl
       go variable h = refl
       go fixed h = refl

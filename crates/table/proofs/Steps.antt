@@ -14,7 +14,7 @@ use Rattle.octets.specs.Numbers.{u16, u16s, there}
 use Rattle.table.specs.Rows.{rowOf, rowAt, rowLength}
 use Rattle.table.specs.Rules.{within, numbersInBounds, flagsInBounds, references, branches, hasBranch, someBranch, deepest}
 use Rattle.table.specs.Verdict.{depthIn, allPassed, rowTest, rowDepth}
-use Rattle.table.specs.Kinds.{byKind, lengthOf, leastCount, mostCount, countOf, referenceCount, referenceStep, flagCount, leastBelow}
+use Rattle.table.specs.Kinds.{byKind, lengthOf, leastCount, mostCount, countOf, referenceCount, referenceStep, mayReserve, flagCount, leastBelow}
 use Rattle.table.specs.Steps.{headTest, headOf, headAt, kept, deepestFrom, rowTested}
 use Rattle.table.specs.declared.rules.Head.the-variants.{Whole, Wrong}
 use Rattle.table.specs.declared.rules.Below.the-variants.{Depth, NoRow}
@@ -88,7 +88,7 @@ abbrev pub flagsOf : List ℕ → ℕ → ℕ → ℕ → List ℕ
 flagsOf t o k m = u16s t (o + 8) 4 (flagCount k m)
 
 abbrev pub referencesOf : List ℕ → ℕ → ℕ → ℕ → List ℕ
-referencesOf t o k m = kept (eqb k 6) (u16s t (o + 6) (referenceStep k) (referenceCount k m))
+referencesOf t o k m = kept (mayReserve k) (u16s t (o + 6) (referenceStep k) (referenceCount k m))
 
 -- the tests of a row as one of a kind with that count, as the steps make them
 unfoldable stepsTest : List ℕ → ℕ → ℕ → ℕ → List ℕ → Bool

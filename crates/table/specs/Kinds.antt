@@ -45,6 +45,10 @@ referenceCount kind count = byKind 0 0 1 1 count count 0 0 kind
 unfoldable pub referenceStep : ℕ → ℕ
 referenceStep kind = cond (eqb kind 5) 4 2
 
+-- whether a row may have reserved branches
+abbrev pub mayReserve : ℕ → Bool
+mayReserve kind = eqb kind 6
+
 -- how many flags stand in a row
 unfoldable pub flagCount : ℕ → ℕ → ℕ
 flagCount kind count = cond (eqb kind 5) count 0

@@ -7,7 +7,7 @@ ghost use lib.ListN.{length};
 ghost use lib.Signed.{mag};
 ghost use Rattle.octets.specs.Numbers.{u16, u32, signed};
 ghost use Rattle.table.specs.Rules.{within};
-ghost use Rattle.table.specs.Kinds.{lengthOf, hasCount, leastCount, mostCount, countOf, referenceCount, referenceStep, flagCount, leastBelow};
+ghost use Rattle.table.specs.Kinds.{lengthOf, hasCount, leastCount, mostCount, countOf, referenceCount, referenceStep, mayReserve, flagCount, leastBelow};
 
 // A row (document 01's term); no value of it is made.
 pub struct Row;
@@ -153,6 +153,13 @@ impl Row {
         } else {
             Row::BRANCH
         }
+    }
+
+    // Whether branches of a row may be reserved.
+    pub fn may_reserve(kind: usize) -> bool
+        ensures { λ r. ⌜ r ≡ mayReserve kind ⌝ }
+    {
+        kind == Row::CHOICE
     }
 
     // How deep the deepest row that a row refers to is at least: every choice has a branch that isn't reserved.

@@ -158,7 +158,8 @@ fn kind_test(table: &[u8], at: usize, known: usize, depths: &[u8]) -> RowTest
     }
     let step = Row::reference_step(kind);
     let n = Row::reference_count(kind, count);
-    let below = deepest(table, at + Row::HEAD, step, n, kind == Row::CHOICE, depths);
+    let reserved = Row::may_reserve(kind);
+    let below = deepest(table, at + Row::HEAD, step, n, reserved, depths);
     let Below::Depth(depth) = below else {
         return RowTest::Broken;
     };

@@ -5,11 +5,10 @@ use borrow.Author.Tests.{not-true, not-false}
 use native.Mathlib.Omega.{arith}
 use denote.Ref.{now}
 use Prim.Native.Nat.{_+_}
-use mathlib.Core.Path.{_≡_, sym, ap, ap₂, _∙_}
-use lib.Dec.{eqb}
+use mathlib.Core.Path.{_≡_, sym, ap, _∙_}
 use Rattle.octets.specs.Numbers.{u16s}
 use Rattle.table.specs.Rules.{flagsInBounds}
-use Rattle.table.specs.Steps.{spread, kept, deepestFrom}
+use Rattle.table.specs.Steps.{spread, deepestFrom}
 use Rattle.table.proofs.ByKind.{two-apart}
 use Rattle.table.proofs.Steps.{Headed, headed, flagsOf, referencesOf, flags-inside, references-inside, head-broken, flag-broken, reference-broken, branch-broken, depth-broken, row-sound}
 use Rattle.table.proofs.rules.kind_test.Statement.{statement}
@@ -26,12 +25,9 @@ flags-of c = c .flags-sound .ensures ∙ ap (λ n. flagsInBounds (u16s (now (c .
 
 -- past the references: what the rows referred to give
 deepest-of : (c : tie.After-deepest)
-    → deepestFrom (spread (now (c .before .before .before .before .before .before .before .before .before .before .before .before .args .depths))) 0 (referencesOf (now (c .before .before .before .before .before .before .before .before .before .before .before .before .args .table)) (c .before .before .before .before .before .before .before .before .before .before .before .before .args .at) (c .before .before .before .before .before .before .before .head .given .0 .1 .0) (c .before .before .before .before .before .before .before .head .given .0 .1 .1 .0)) ≡ c .deepest .result
+    → deepestFrom (spread (now (c .before .before .before .before .before .before .before .before .before .before .before .before .before .args .depths))) 0 (referencesOf (now (c .before .before .before .before .before .before .before .before .before .before .before .before .before .args .table)) (c .before .before .before .before .before .before .before .before .before .before .before .before .before .args .at) (c .before .before .before .before .before .before .before .before .head .given .0 .1 .0) (c .before .before .before .before .before .before .before .before .head .given .0 .1 .1 .0)) ≡ c .deepest .result
 deepest-of c =
-    let a = c .before .before .before .before .before .before .before .before .before .before .before .before .args in
-    let k = c .before .before .before .before .before .before .before .head .given .0 .1 .0 in
-    sym (c .deepest .ensures
-    ∙ ap₂ (λ s n. deepestFrom (spread (now (a .depths))) 0 (kept (eqb k 6) (u16s (now (a .table)) (a .at + 6) s n))) (c .before .before .reference-step .ensures) (c .before .reference-count .ensures))
+    sym (rw (c .before .before .before .reference-step .ensures, c .before .before .reference-count .ensures, c .before .may-reserve .ensures) at (c .deepest .ensures))
 
 returns : tie.Need-returns
 returns c =
@@ -47,24 +43,24 @@ returns-2 c =
 
 deepest-requires : tie.Need-deepest-requires
 deepest-requires c κs =
-    rw (c .before .reference-step .ensures, c .reference-count .ensures)
-    (two-apart (c .before .before .before .before .before .before .head .given .0 .1 .0), references-inside (head-of (c .before .before .before .before .before)))
+    rw (c .before .before .reference-step .ensures, c .before .reference-count .ensures)
+    (two-apart (c .before .before .before .before .before .before .before .head .given .0 .1 .0), references-inside (head-of (c .before .before .before .before .before .before)))
 
 returns-3 : tie.Need-returns-3
-returns-3 c = reference-broken (spread (now (c .before .before .before .before .before .before .before .before .before .before .before .before .before .before .args .depths))) (head-of (c .before .before .before .before .before .before .before .before)) (deepest-of (c .before .before) ∙ c .enum-told2 .given .1)
+returns-3 c = reference-broken (spread (now (c .before .before .before .before .before .before .before .before .before .before .before .before .before .before .before .args .depths))) (head-of (c .before .before .before .before .before .before .before .before .before)) (deepest-of (c .before .before) ∙ c .enum-told2 .given .1)
 
 returns-4 : tie.Need-returns-4
 returns-4 c =
-    branch-broken (spread (now (c .before .before .before .before .before .before .before .before .before .before .before .before .before .before .before .before .before .args .depths))) (head-of (c .before .before .before .before .before .before .before .before .before .before .before)) (c .before .before .before .below .given .0 .0) (deepest-of (c .before .before .before .before .before) ∙ c .before .before .before .below .given .1) (omega arith)
+    branch-broken (spread (now (c .before .before .before .before .before .before .before .before .before .before .before .before .before .before .before .before .before .before .args .depths))) (head-of (c .before .before .before .before .before .before .before .before .before .before .before .before)) (c .before .before .before .below .given .0 .0) (deepest-of (c .before .before .before .before .before) ∙ c .before .before .before .below .given .1) (omega arith)
 
 returns-5 : tie.Need-returns-5
 returns-5 c =
-    depth-broken (spread (now (c .before .before .before .before .before .before .before .before .before .before .before .before .before .before .before .before .before .before .args .depths))) (head-of (c .before .before .before .before .before .before .before .before .before .before .before .before)) (c .before .before .before .before .below .given .0 .0) (deepest-of (c .before .before .before .before .before .before) ∙ c .before .before .before .before .below .given .1) (omega arith)
+    depth-broken (spread (now (c .before .before .before .before .before .before .before .before .before .before .before .before .before .before .before .before .before .before .before .args .depths))) (head-of (c .before .before .before .before .before .before .before .before .before .before .before .before .before)) (c .before .before .before .before .below .given .0 .0) (deepest-of (c .before .before .before .before .before .before) ∙ c .before .before .before .before .below .given .1) (omega arith)
 
 returns-6 : tie.Need-returns-6
 returns-6 c =
-    row-sound (spread (now (c .before .before .before .before .before .before .before .before .before .before .before .before .before .before .before .before .before .before .args .depths))) (head-of (c .before .before .before .before .before .before .before .before .before .before .before .before)) (c .before .before .before .before .below .given .0 .0) (deepest-of (c .before .before .before .before .before .before) ∙ c .before .before .before .before .below .given .1)
-    (sym (flags-of (c .before .before .before .before .before .before .before .before .before .before)) ∙ not-false (c .before .before .before .before .before .before .before .before .before .before .flags-sound .result) (c .before .before .before .before .before .before .before .before .before .if1 .left)) (omega arith) (omega arith)
+    row-sound (spread (now (c .before .before .before .before .before .before .before .before .before .before .before .before .before .before .before .before .before .before .before .args .depths))) (head-of (c .before .before .before .before .before .before .before .before .before .before .before .before .before)) (c .before .before .before .before .below .given .0 .0) (deepest-of (c .before .before .before .before .before .before) ∙ c .before .before .before .before .below .given .1)
+    (sym (flags-of (c .before .before .before .before .before .before .before .before .before .before .before)) ∙ not-false (c .before .before .before .before .before .before .before .before .before .before .before .flags-sound .result) (c .before .before .before .before .before .before .before .before .before .before .if1 .left)) (omega arith) (omega arith)
 
 pub kind-test-spec : {M : Type 1} → statement M
 kind-test-spec =
@@ -78,6 +74,7 @@ kind-test-spec =
     (λ c κs. search needs)
     flags-sound-requires
     returns-2
+    (λ c κs. search needs)
     (λ c κs. search needs)
     (λ c κs. search needs)
     (λ c. search needs)
