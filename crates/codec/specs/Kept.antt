@@ -1,5 +1,5 @@
--- What reading and writing leave in the lent slices before their rest is zeroed, and the close of a message: for the private
--- functions. No contract of a public call cites this file.
+-- What reading and writing leave in the lent slices before their rest is zeroed, and the close of a message: for the parts and
+-- the private functions. No contract of a public call cites this file.
 use Prim.Native.Nat.{ℕ, _+_, _-_, _*_, _≤_, _<_}
 use mathlib.Core.Bool.{Bool, cond, _&&_}
 use mathlib.Core.Path.{_≡_}

@@ -1,5 +1,5 @@
 // Reading and writing under a lent table: the check, the root, the padding, and zeros after the answer. No call here asks
-// anything of its arguments, but for read_known, for tables whose check is proved.
+// anything of its arguments; the modules have parts, for tables that are known to pass.
 pub mod reading;
 pub mod writing;
 
@@ -8,25 +8,10 @@ ghost use mathlib.Core.Path.{_≡_};
 ghost use Prim.Native.Nat.{_/_};
 ghost use lib.ListN.{length};
 ghost use Rattle.values.specs.Values.{valuesIn};
-ghost use Rattle.table.specs.Rules.{Obeys};
-ghost use Rattle.table.specs.Root.{root};
 ghost use Rattle.encoding.specs.Reading.{readOutcome};
 ghost use Rattle.encoding.specs.Writing.{writeOutcome};
 ghost use Rattle.encoding.specs.Calls.{readCall, valuesAfter, packedAfter, writeCall, outputAfter};
 ghost use Rattle.writer.specs.Writes.{listIn};
-
-// Reads all lent octets as one message into the value slice, under a table that is known to pass, whose root is at an offset.
-pub fn read_known(table: &[u8], at: usize, message: &[u8], values: &mut [i64]) -> Answer
-    requires { ⌜ Obeys (now table) × (at ≡ root (now table)) ⌝ }
-    ensures { λ r. ⌜ (r ≡ readCall (now (table .entry)) (now (message .entry)) (length (now (values .entry)))) × (now (values .exit) ≡ valuesAfter (length (now (values .entry))) (readOutcome (now (table .entry)) (now (message .entry)) (length (now (values .entry))))) ⌝ }
-{
-    let mut none = [0u8; 0];
-    let room = values.len();
-    let answer = reading::read_passed(table, at, message, values, &mut none, room);
-    let kept = reading::kept_count(answer);
-    values::clear_values(values, kept);
-    answer
-}
 
 // Reads all lent octets as one message under a lent table, into the value slice.
 pub fn read(table: &[u8], message: &[u8], values: &mut [i64]) -> Answer
@@ -37,7 +22,7 @@ pub fn read(table: &[u8], message: &[u8], values: &mut [i64]) -> Answer
         values::clear_values(values, 0);
         return verdict;
     };
-    read_known(table, table::root(table), message, values)
+    reading::read_known(table, table::passed::root(table), message, values)
 }
 
 // The same with the values as octets, eight for each.
@@ -49,7 +34,7 @@ pub fn read_packed(table: &[u8], message: &[u8], packed: &mut [u8]) -> Answer
         values::clear_octets(packed, 0);
         return verdict;
     };
-    let root = table::root(table);
+    let root = table::passed::root(table);
     let mut none = [0i64; 0];
     let room = packed.len() / 8;
     let answer = reading::read_passed(table, root, message, &mut none, packed, room);
@@ -83,5 +68,5 @@ fn write_lent(table: &[u8], values: &[i64], packed: &[u8], output: &mut [u8]) ->
         values::clear_octets(output, 0);
         return verdict;
     };
-    writing::write_known(table, table::root(table), values, packed, output)
+    writing::write_known(table, table::passed::root(table), values, packed, output)
 }

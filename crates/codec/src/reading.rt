@@ -13,7 +13,8 @@ ghost use Rattle.values.specs.Values.{setValue};
 ghost use Rattle.table.specs.Rules.{Obeys};
 ghost use Rattle.table.specs.Root.{root};
 ghost use Rattle.encoding.specs.Rows.{asks};
-ghost use Rattle.encoding.specs.Reading.{decode, readAnswer};
+ghost use Rattle.encoding.specs.Reading.{decode, readOutcome, readAnswer};
+ghost use Rattle.encoding.specs.Calls.{readCall, valuesAfter};
 ghost use Rattle.codec.specs.Kept.{KeptBy, closed, stepAnswer, keptCount, messageOutcome};
 
 // The close of a message whose root ends at a cursor: its last octet ends the message, and zero bits fill it.
@@ -100,4 +101,17 @@ pub fn kept_count(answer: Answer) -> usize
         Answer::Accepted(counts) => counts.values,
         Answer::Refused(_) => 0,
     }
+}
+
+// Any octets into the value slice, under a table that is known to pass, whose root is at an offset; then zeros to its end.
+pub fn read_known(table: &[u8], at: usize, message: &[u8], values: &mut [i64]) -> Answer
+    requires { ⌜ Obeys (now table) × (at ≡ root (now table)) ⌝ }
+    ensures { λ r. ⌜ (r ≡ readCall (now (table .entry)) (now (message .entry)) (length (now (values .entry)))) × (now (values .exit) ≡ valuesAfter (length (now (values .entry))) (readOutcome (now (table .entry)) (now (message .entry)) (length (now (values .entry))))) ⌝ }
+{
+    let mut none = [0u8; 0];
+    let room = values.len();
+    let answer = read_passed(table, at, message, values, &mut none, room);
+    let kept = kept_count(answer);
+    values::clear_values(values, kept);
+    answer
 }

@@ -1,63 +1,19 @@
 // LM, SAM and SRM by name. Their tables are proved to pass, so no check runs. An LM has two tests of its own before every item
 // (document 01: 10 on the version, 11 on the subtype).
+pub mod reading;
+
 use answer::Answer;
 use answer::Refusal;
 use bits::BitPlace;
-use bits::Fetched;
 use bits::OctetSize;
 ghost use mathlib.Core.Path.{_≡_};
-ghost use lib.ListN.{length, set};
-ghost use Rattle.values.specs.Values.{setValue};
-ghost use Rattle.encoding.specs.Reading.{readOutcome, readAnswer};
+ghost use lib.ListN.{length};
+ghost use Rattle.encoding.specs.Reading.{readOutcome};
 ghost use Rattle.encoding.specs.Writing.{writeOutcome};
 ghost use Rattle.encoding.specs.Calls.{readCall, valuesAfter, writeCall, outputAfter};
-ghost use Rattle.codec.specs.Kept.{KeptBy};
 ghost use Rattle.builtin.specs.Tables.{sam, srm};
 ghost use Rattle.lm.specs.ByName.{readLmOutcome, readLmCall, writeLmOutcome, writeLmCall};
-ghost use Rattle.messages.specs.Tested.{lmTested, lmListTested};
-
-// The tests before an LM's items: 13, 2 where there are no octets, 10 on the version, 11 on the subtype. What passes them is
-// accepted, and counts nothing.
-fn lm_tested(message: &[u8]) -> Answer
-    ensures { λ r. ⌜ r ≡ lmTested (now (message .entry)) ⌝ }
-{
-    if 65535 < message.len() {
-        return Answer::refused(Refusal::TOO_LONG, 0);
-    }
-    let version = bits::fetch(message, BitPlace(5), 3);
-    let Fetched::Bits(number, _) = version else {
-        return Answer::refused(Refusal::MESSAGE_ENDS, 0);
-    };
-    if number != 3 {
-        return Answer::refused(Refusal::WRONG_VERSION, 5);
-    }
-    let subtype = bits::fetch(message, BitPlace(0), 4);
-    let Fetched::Bits(branch, _) = subtype else {
-        return Answer::refused(Refusal::MESSAGE_ENDS, 0);
-    };
-    if 2 < branch {
-        return Answer::refused(Refusal::WRONG_SUBTYPE, 0);
-    }
-    Answer::accepted(0, BitPlace(0), OctetSize(0))
-}
-
-// An LM into either slice.
-pub fn lm_message(message: &[u8], values: &mut [i64], packed: &mut [u8], room: usize) -> Answer
-    ensures { λ r. ⌜ (r ≡ readAnswer (readLmOutcome (now (message .entry)) room)) × KeptBy set (readLmOutcome (now (message .entry)) room) (now (values .entry)) (now (values .exit)) × KeptBy setValue (readLmOutcome (now (message .entry)) room) (now (packed .entry)) (now (packed .exit)) ⌝ }
-{
-    let tested = lm_tested(message);
-    let Answer::Accepted(_) = tested else {
-        return tested;
-    };
-    codec::reading::read_message(
-        &builtin::LM,
-        builtin::LM_ROOT,
-        message,
-        values,
-        packed,
-        room,
-    )
-}
+ghost use Rattle.messages.specs.Tested.{lmListTested};
 
 // Reads an LM into the value slice.
 pub fn read_lm(message: &[u8], values: &mut [i64]) -> Answer
@@ -65,7 +21,7 @@ pub fn read_lm(message: &[u8], values: &mut [i64]) -> Answer
 {
     let mut none = [0u8; 0];
     let room = values.len();
-    let answer = lm_message(message, values, &mut none, room);
+    let answer = reading::lm_message(message, values, &mut none, room);
     let kept = codec::reading::kept_count(answer);
     values::clear_values(values, kept);
     answer
@@ -75,14 +31,14 @@ pub fn read_lm(message: &[u8], values: &mut [i64]) -> Answer
 pub fn read_sam(message: &[u8], values: &mut [i64]) -> Answer
     ensures { λ r. ⌜ (r ≡ readCall sam (now (message .entry)) (length (now (values .entry)))) × (now (values .exit) ≡ valuesAfter (length (now (values .entry))) (readOutcome sam (now (message .entry)) (length (now (values .entry))))) ⌝ }
 {
-    codec::read_known(&builtin::SAM, builtin::SAM_ROOT, message, values)
+    codec::reading::read_known(&builtin::SAM, builtin::SAM_ROOT, message, values)
 }
 
 // Reads an SRM into the value slice.
 pub fn read_srm(message: &[u8], values: &mut [i64]) -> Answer
     ensures { λ r. ⌜ (r ≡ readCall srm (now (message .entry)) (length (now (values .entry)))) × (now (values .exit) ≡ valuesAfter (length (now (values .entry))) (readOutcome srm (now (message .entry)) (length (now (values .entry))))) ⌝ }
 {
-    codec::read_known(&builtin::SRM, builtin::SRM_ROOT, message, values)
+    codec::reading::read_known(&builtin::SRM, builtin::SRM_ROOT, message, values)
 }
 
 // The tests before an LM's values: 12 on a list shorter than 3, 10 on the third value, 11 on the first. What passes them is

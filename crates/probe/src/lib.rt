@@ -8,37 +8,37 @@ use userdata::Found;
 // Reads an LM.
 #[no_mangle]
 pub extern "C" fn probe_read_lm(message: &[u8], values: &mut [i64], numbers: &mut [u64; 6]) {
-    *numbers = teyolxan::told(messages::read_lm(message, values));
+    *numbers = teyolxan::numbers::told(messages::read_lm(message, values));
 }
 
 // Reads a SAM.
 #[no_mangle]
 pub extern "C" fn probe_read_sam(message: &[u8], values: &mut [i64], numbers: &mut [u64; 6]) {
-    *numbers = teyolxan::told(messages::read_sam(message, values));
+    *numbers = teyolxan::numbers::told(messages::read_sam(message, values));
 }
 
 // Reads an SRM.
 #[no_mangle]
 pub extern "C" fn probe_read_srm(message: &[u8], values: &mut [i64], numbers: &mut [u64; 6]) {
-    *numbers = teyolxan::told(messages::read_srm(message, values));
+    *numbers = teyolxan::numbers::told(messages::read_srm(message, values));
 }
 
 // Writes an LM.
 #[no_mangle]
 pub extern "C" fn probe_write_lm(values: &[i64], output: &mut [u8], numbers: &mut [u64; 6]) {
-    *numbers = teyolxan::told(messages::write_lm(values, output));
+    *numbers = teyolxan::numbers::told(messages::write_lm(values, output));
 }
 
 // Writes a SAM.
 #[no_mangle]
 pub extern "C" fn probe_write_sam(values: &[i64], output: &mut [u8], numbers: &mut [u64; 6]) {
-    *numbers = teyolxan::told(messages::write_sam(values, output));
+    *numbers = teyolxan::numbers::told(messages::write_sam(values, output));
 }
 
 // Writes an SRM.
 #[no_mangle]
 pub extern "C" fn probe_write_srm(values: &[i64], output: &mut [u8], numbers: &mut [u64; 6]) {
-    *numbers = teyolxan::told(messages::write_srm(values, output));
+    *numbers = teyolxan::numbers::told(messages::write_srm(values, output));
 }
 
 // A known element: 0 here, 1 elsewhere, 2 unknown.
@@ -66,7 +66,7 @@ pub extern "C" fn probe_user_data(message: &[u8], numbers: &mut [u64; 6]) {
 // What opening a message answers.
 #[no_mangle]
 pub extern "C" fn probe_open(message: &[u8], numbers: &mut [u64; 6]) {
-    *numbers = teyolxan::told(opened::opening(message));
+    *numbers = teyolxan::numbers::told(opened::opening(message));
 }
 
 // Bits taken at a place of an opened message: the refusal's number, the place after, the bits' number.

@@ -1,4 +1,5 @@
-// Tables: the row type, and the check of a table against document 01's rules ("Row layout").
+// Tables: the row type, the check of a table against document 01's rules ("Row layout"), and what a table that passed it tells.
+pub mod passed;
 mod row;
 mod rules;
 
@@ -10,8 +11,7 @@ pub use row::Row;
 use rules::RowTest;
 ghost use mathlib.Core.Path.{_≡_};
 ghost use Rattle.answer.specs.Numbers.{refused, brokenTable};
-ghost use Rattle.table.specs.Verdict.{verdict, passed, checked};
-ghost use Rattle.table.specs.Root.{root};
+ghost use Rattle.table.specs.Verdict.{verdict, checked};
 
 // The answer to a table that breaks a rule.
 fn broken() -> Answer
@@ -43,18 +43,4 @@ pub fn check(table: &[u8]) -> Answer
         at += length;
     }
     Answer::accepted(0, BitPlace(0), OctetSize(0))
-}
-
-// The offset of the root, the last row, of a table that obeys the rules.
-pub fn root(table: &[u8]) -> usize
-    requires { ⌜ verdict (now table) ≡ passed ⌝ }
-    ensures { λ r. ⌜ r ≡ root (now (table .entry)) ⌝ }
-{
-    let mut at = 0;
-    let mut next = Row::length_at(table, at);
-    while next < table.len() {
-        at = next;
-        next = at + Row::length_at(table, at);
-    }
-    at
 }

@@ -1,6 +1,7 @@
 // What a host written in Rust or C calls: check, read and write under a lent table, on plain numbers and octet slices. A value is
 // eight octets, little-endian, two's complement; octets after the last whole eight of a value slice hold none.
-use answer::Answer;
+pub mod numbers;
+
 ghost use mathlib.Core.Path.{_≡_};
 ghost use Prim.Native.Nat.{_/_};
 ghost use lib.ListN.{length};
@@ -11,28 +12,11 @@ ghost use Rattle.encoding.specs.Writing.{writeOutcome};
 ghost use Rattle.encoding.specs.Calls.{readCall, packedAfter, writeCall, outputAfter};
 ghost use Rattle.teyolxan.specs.Told.{told};
 
-// The answer as six numbers: the refusal's number, its place, the values, the bits, the octets, and 0.
-pub fn told(answer: Answer) -> [u64; 6]
-    ensures { λ r. ⌜ r ≡ told answer ⌝ }
-{
-    match answer {
-        Answer::Accepted(counts) => [
-            0,
-            0,
-            counts.values as u64,
-            counts.bits.0 as u64,
-            counts.octets.0 as u64,
-            0,
-        ],
-        Answer::Refused(refusal) => [refusal.number as u64, refusal.place as u64, 0, 0, 0, 0],
-    }
-}
-
 #[no_mangle]
 pub extern "C" fn teyolxan_check(table: &[u8], numbers: &mut [u64; 6])
     ensures { λ _. ⌜ now (numbers .exit) ≡ told (checked (verdict (now (table .entry)))) ⌝ }
 {
-    *numbers = told(table::check(table));
+    *numbers = numbers::told(table::check(table));
 }
 
 #[no_mangle]
@@ -45,7 +29,7 @@ pub extern "C" fn teyolxan_read(
     ensures { λ _. ⌜ (now (numbers .exit) ≡ told (readCall (now (table .entry)) (now (message .entry)) (length (now (values .entry)) / 8))) × (now (values .exit) ≡ packedAfter (length (now (values .entry))) (readOutcome (now (table .entry)) (now (message .entry)) (length (now (values .entry)) / 8))) ⌝ }
 {
     let answer = codec::read_packed(table, message, values);
-    *numbers = told(answer);
+    *numbers = numbers::told(answer);
 }
 
 #[no_mangle]
@@ -58,5 +42,5 @@ pub extern "C" fn teyolxan_write(
     ensures { λ _. ⌜ (now (numbers .exit) ≡ told (writeCall (now (table .entry)) (valuesIn (now (values .entry))) (length (now (output .entry))))) × (now (output .exit) ≡ outputAfter (length (now (output .entry))) (writeOutcome (now (table .entry)) (valuesIn (now (values .entry))) (length (now (output .entry))))) ⌝ }
 {
     let answer = codec::write_packed(table, values, output);
-    *numbers = told(answer);
+    *numbers = numbers::told(answer);
 }

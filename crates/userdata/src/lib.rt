@@ -10,7 +10,7 @@ ghost use mathlib.Core.Path.{_≡_};
 ghost use Prim.Native.Nat.{_+_, _≤_};
 ghost use lib.ListN.{length};
 ghost use Rattle.userdata.specs.UserData.{userDataFound, partOf, startOf};
-ghost use Rattle.userdata.specs.Headers.{headerCount};
+ghost use Rattle.userdata.specs.Headers.{headerCount, answerFound};
 
 // A part of a message, in octets.
 pub struct Span {
@@ -70,24 +70,35 @@ fn header_values(message: &[u8]) -> usize
     end.count
 }
 
+// An answer that was refused, as where the user data stands.
+fn refused(answer: Answer) -> Found
+    ensures { λ r. ⌜ r ≡ answerFound answer ⌝ }
+{
+    match answer {
+        Answer::Accepted(_) => Found::At(Span {
+            start: OctetSize(0),
+            length: OctetSize(0),
+        }),
+        Answer::Refused(refusal) => Found::Refused(refusal),
+    }
+}
+
 // Where the user data of an LM stands: it is the last of the message, and of its values all after the headers' and its length.
 pub fn user_data_place(message: &[u8]) -> Found
     ensures { λ r. ⌜ r ≡ userDataFound (now (message .entry)) ⌝ }
 {
     let mut values = [0i64; 0];
     let mut packed = [0u8; 0];
-    let answer = messages::lm_message(message, &mut values, &mut packed, ROOM);
-    match answer {
-        Answer::Refused(refusal) => Found::Refused(refusal),
-        Answer::Accepted(counts) => {
-            let length = counts.values - header_values(message) - 1;
-            let start = message.len() - length;
-            Found::At(Span {
-                start: OctetSize(start),
-                length: OctetSize(length),
-            })
-        }
-    }
+    let answer = messages::reading::lm_message(message, &mut values, &mut packed, ROOM);
+    let Answer::Accepted(counts) = answer else {
+        return refused(answer);
+    };
+    let length = counts.values - header_values(message) - 1;
+    let start = message.len() - length;
+    Found::At(Span {
+        start: OctetSize(start),
+        length: OctetSize(length),
+    })
 }
 
 // The user data of an LM, a part of the lent message; empty and from its start on a refusal.

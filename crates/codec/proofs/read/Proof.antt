@@ -20,9 +20,9 @@ use Rattle.codec.proofs.read.Statement.{statement}
 use Rattle.codec.proofs.read.Tie as tie
 use Rattle.codec.proofs.read.Reads as reads
 use Rattle.codec.proofs.read.Lts as lts
-use Rattle.codec.proofs.read_known.Reads as read-known-reads
+use Rattle.codec.proofs.reading.read_known.Reads as read-known-reads
 use Rattle.table.proofs.check.Reads as check-reads
-use Rattle.table.proofs.root.Reads as root-reads
+use Rattle.table.proofs.passed.root.Reads as root-reads
 use Rattle.values.proofs.clear_values.Reads as clear-values-reads
 
 check-requires : tie.Need-check-requires

@@ -23,7 +23,7 @@ use Rattle.codec.proofs.read_packed.Lts as lts
 use Rattle.codec.proofs.reading.kept_count.Reads as kept-count-reads
 use Rattle.codec.proofs.reading.read_passed.Reads as read-passed-reads
 use Rattle.table.proofs.check.Reads as check-reads
-use Rattle.table.proofs.root.Reads as root-reads
+use Rattle.table.proofs.passed.root.Reads as root-reads
 use Rattle.values.proofs.clear_octets.Reads as clear-octets-reads
 
 check-requires : tie.Need-check-requires

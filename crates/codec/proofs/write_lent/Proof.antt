@@ -26,7 +26,7 @@ use Rattle.codec.proofs.write_lent.Reads as reads
 use Rattle.codec.proofs.write_lent.Lts as lts
 use Rattle.codec.proofs.writing.write_known.Reads as write-known-reads
 use Rattle.table.proofs.check.Reads as check-reads
-use Rattle.table.proofs.root.Reads as root-reads
+use Rattle.table.proofs.passed.root.Reads as root-reads
 use Rattle.values.proofs.clear_octets.Reads as clear-octets-reads
 
 check-requires : tie.Need-check-requires

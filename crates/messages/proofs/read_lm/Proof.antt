@@ -18,7 +18,7 @@ use Rattle.messages.proofs.read_lm.Tie as tie
 use Rattle.messages.proofs.read_lm.Reads as reads
 use Rattle.messages.proofs.read_lm.Lts as lts
 use Rattle.codec.proofs.reading.kept_count.Reads as kept-count-reads
-use Rattle.messages.proofs.lm_message.Reads as lm-message-reads
+use Rattle.messages.proofs.reading.lm_message.Reads as lm-message-reads
 use Rattle.values.proofs.clear_values.Reads as clear-values-reads
 
 slice-aggregate-lm-message : tie.Need-slice-aggregate-lm-message

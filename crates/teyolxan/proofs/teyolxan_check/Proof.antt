@@ -8,7 +8,7 @@ use Rattle.teyolxan.proofs.teyolxan_check.Tie as tie
 use Rattle.teyolxan.proofs.teyolxan_check.Reads as reads
 use Rattle.teyolxan.proofs.teyolxan_check.Lts as lts
 use Rattle.table.proofs.check.Reads as check-reads
-use Rattle.teyolxan.proofs.told.Reads as told-reads
+use Rattle.teyolxan.proofs.numbers.told.Reads as told-reads
 
 check-requires : tie.Need-check-requires
 check-requires c κs = search needs

@@ -8,7 +8,7 @@ use Rattle.teyolxan.proofs.teyolxan_read.Tie as tie
 use Rattle.teyolxan.proofs.teyolxan_read.Reads as reads
 use Rattle.teyolxan.proofs.teyolxan_read.Lts as lts
 use Rattle.codec.proofs.read_packed.Reads as read-packed-reads
-use Rattle.teyolxan.proofs.told.Reads as told-reads
+use Rattle.teyolxan.proofs.numbers.told.Reads as told-reads
 
 read-packed-requires : tie.Need-read-packed-requires
 read-packed-requires c κs = search needs

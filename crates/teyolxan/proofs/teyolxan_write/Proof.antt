@@ -8,7 +8,7 @@ use Rattle.teyolxan.proofs.teyolxan_write.Tie as tie
 use Rattle.teyolxan.proofs.teyolxan_write.Reads as reads
 use Rattle.teyolxan.proofs.teyolxan_write.Lts as lts
 use Rattle.codec.proofs.write_packed.Reads as write-packed-reads
-use Rattle.teyolxan.proofs.told.Reads as told-reads
+use Rattle.teyolxan.proofs.numbers.told.Reads as told-reads
 
 write-packed-requires : tie.Need-write-packed-requires
 write-packed-requires c κs = search needs

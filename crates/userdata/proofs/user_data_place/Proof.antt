@@ -6,76 +6,53 @@ use native.Mathlib.Omega.{arith}
 use denote.Ref.{now}
 use lib.ListN.{length}
 use Rattle.userdata.specs.declared.Found.the-variants.{At}
-use Rattle.userdata.proofs.Outcome.{accepted-placed, refused-placed}
+use Rattle.userdata.specs.Headers.{answerFound}
+use Rattle.userdata.proofs.Outcome.{Placed, accepted-placed, refused-placed}
 use borrow.Author.Needs.{needs}
 use Rattle.userdata.proofs.user_data_place.Statement.{statement}
 use Rattle.userdata.proofs.user_data_place.Tie as tie
-use Rattle.userdata.proofs.user_data_place.Reads as reads
-use Rattle.userdata.proofs.user_data_place.Lts as lts
-use Rattle.messages.proofs.lm_message.Reads as lm-message-reads
-use Rattle.userdata.proofs.header_values.Reads as header-values-reads
 
-slice-aggregate-lm-message : tie.Need-slice-aggregate-lm-message
-slice-aggregate-lm-message c = search needs
+-- past a refusal: where the user data stands, by the counts
+placed : (c : tie.After-known-told) → Placed (now (c .before .before .before .before .before .before .before .before .before .args .message)) (c .before .answer .given .0 .0)
+placed c = accepted-placed _ _ (sym (c .before .before .before .before .before .lm-message .ensures .0) ∙ c .before .answer .given .1)
 
-slice-aggregate-lm-message-2 : tie.Need-slice-aggregate-lm-message-2
-slice-aggregate-lm-message-2 c = search needs
-
-lm-message-requires : tie.Need-lm-message-requires
-lm-message-requires c κs = search needs
-
-enum-known-answer : tie.Need-enum-known-answer
-enum-known-answer c = search needs
-
-enum-known-answer-2 : tie.Need-enum-known-answer-2
-enum-known-answer-2 c = search needs
-
-header-values-requires : tie.Need-header-values-requires
-header-values-requires c κs =
+returns : tie.Need-returns
+returns c =
     let s = now (c .before .before .before .before .before .before .before .before .before .args .message) in
-    let p = accepted-placed s _ (sym (c .before .before .before .before .before .lm-message .ensures .0) ∙ c .before .answer2 .given .1) in
-    p .most
+    let e = c .before .enum-told .given .1 in
+    c .refused .ensures ∙ ap answerFound e ∙ refused-placed s _ (sym (c .before .before .before .before .before .lm-message .ensures .0) ∙ e)
 
 sub-length : tie.Need-sub-length
-sub-length c =
-    let s = now (c .before .before .before .before .before .before .before .before .before .before .before .args .message) in
-    let p = accepted-placed s _ (sym (c .before .before .before .before .before .before .before .lm-message .ensures .0) ∙ c .before .before .before .answer2 .given .1) in
-    omega (arith, p .count, c .before .header-values .ensures)
+sub-length c = omega (arith, placed (c .before .before) .count, c .before .header-values .ensures)
 
 sub-length-2 : tie.Need-sub-length-2
-sub-length-2 c =
-    let s = now (c .before .before .before .before .before .before .before .before .before .before .before .args .message) in
-    let p = accepted-placed s _ (sym (c .before .before .before .before .before .before .before .lm-message .ensures .0) ∙ c .before .before .before .answer2 .given .1) in
-    omega (arith, p .count, c .before .header-values .ensures)
+sub-length-2 c = omega (arith, placed (c .before .before) .count, c .before .header-values .ensures)
 
 sub-start : tie.Need-sub-start
 sub-start c =
-    let s = now (c .before .before .before .before .before .before .before .before .before .before .before .args .message) in
-    let p = accepted-placed s _ (sym (c .before .before .before .before .before .before .before .lm-message .ensures .0) ∙ c .before .before .before .answer2 .given .1) in
+    let p = placed (c .before .before) in
     omega (arith, p .count, p .within, c .before .header-values .ensures)
-
-returns : tie.Need-returns
-returns c = refused-placed (now (c .before .before .before .before .before .before .before .before .before .args .message)) _ (sym (c .before .before .before .before .before .lm-message .ensures .0) ∙ c .before .answer .given .1)
 
 returns-2 : tie.Need-returns-2
 returns-2 c =
     let s = now (c .before .before .before .before .before .before .before .before .before .before .before .args .message) in
-    let p = accepted-placed s _ (sym (c .before .before .before .before .before .before .before .lm-message .ensures .0) ∙ c .before .before .before .answer2 .given .1) in
-    let k : c .before .before .before .answer2 .given .0 .0 .values - c .before .header-values .result - 1 ≡ p .size = omega (arith, p .count, c .before .header-values .ensures) in
+    let p = placed (c .before .before) in
+    let k : c .before .before .before .answer .given .0 .0 .values - c .before .header-values .result - 1 ≡ p .size = omega (arith, p .count, c .before .header-values .ensures) in
     ap (λ k. At (record { start = record { 0 = length s - k }; length = record { 0 = k } })) k ∙ sym (p .found)
 
 pub user-data-place-spec : {M : Type 1} → statement M
 user-data-place-spec =
     tie.close
     (tie.spec
-    slice-aggregate-lm-message
-    slice-aggregate-lm-message-2
-    lm-message-requires
-    enum-known-answer
-    enum-known-answer-2
-    header-values-requires
+    (λ c. search needs)
+    (λ c. search needs)
+    (λ c κs. search needs)
+    (λ c. search needs)
+    (λ c. search needs)
+    (λ c κs. search needs)
+    returns
+    (λ c κs. placed c .most)
     sub-length
     sub-length-2
     sub-start
-    returns
     returns-2)

@@ -1,4 +1,4 @@
--- `table::root` meets its contract. The loop's invariant: a row starts at `at`, and `next` is where it ends. The measure is what is
+-- `table::passed::root` meets its contract. The loop's invariant: a row starts at `at`, and `next` is where it ends. The measure is what is
 -- left of the table.
 use native.Mathlib.Omega.{arith}
 use denote.Ref.{now}
@@ -10,8 +10,8 @@ use Rattle.table.specs.Rules.{here, Starts, Obeys}
 use Rattle.table.proofs.Decides.{reach-on, row-four, passes-exactly}
 use Rattle.table.proofs.Obeyed.{row-ends, row-starts-inside}
 use Rattle.table.proofs.LastRow.{is-root}
-use Rattle.table.proofs.root.Statement.{statement}
-use Rattle.table.proofs.root.Tie as tie
+use Rattle.table.proofs.passed.root.Statement.{statement}
+use Rattle.table.proofs.passed.root.Tie as tie
 
 abbrev Inv-loop : tie.InvT-loop
 Inv-loop table at₀ next₀ at next = Starts table at × (next ≡ at + u16 table at)

@@ -1,4 +1,4 @@
--- `codec::read_known` meets its contract. The outcome kept, and zeros after it.
+-- `codec::reading::read_known` meets its contract. The outcome kept, and zeros after it.
 -- Assumes nothing.
 use Prim.Native.Nat.{ℕ, _+_, _-_, _*_, _/_, _≤_, _<_}
 use mathlib.Core.Path.{_≡_, refl, sym, ap, _∙_}
@@ -16,10 +16,10 @@ use Rattle.table.proofs.Decides.{passes-exactly}
 use Rattle.codec.specs.Kept.{keptCount, messageOutcome}
 use Rattle.codec.proofs.Settled.{accepted-obeys, passed-outcome, broken-outcome, outcome-fits, count-is, settled-values, settled-packed}
 use borrow.Author.Needs.{needs}
-use Rattle.codec.proofs.read_known.Statement.{statement}
-use Rattle.codec.proofs.read_known.Tie as tie
-use Rattle.codec.proofs.read_known.Reads as reads
-use Rattle.codec.proofs.read_known.Lts as lts
+use Rattle.codec.proofs.reading.read_known.Statement.{statement}
+use Rattle.codec.proofs.reading.read_known.Tie as tie
+use Rattle.codec.proofs.reading.read_known.Reads as reads
+use Rattle.codec.proofs.reading.read_known.Lts as lts
 use Rattle.codec.proofs.reading.kept_count.Reads as kept-count-reads
 use Rattle.codec.proofs.reading.read_passed.Reads as read-passed-reads
 use Rattle.values.proofs.clear_values.Reads as clear-values-reads

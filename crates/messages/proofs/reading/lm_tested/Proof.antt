@@ -1,4 +1,4 @@
--- `messages::lm_tested` meets its contract. Each test as it is made.
+-- `messages::reading::lm_tested` meets its contract. Each test as it is made.
 -- Assumes nothing.
 use Prim.Native.Nat.{ℕ, _+_, _-_, _*_, _/_, _≤_, _<_}
 use mathlib.Core.Path.{_≡_, refl, sym, ap, _∙_}
@@ -10,10 +10,10 @@ use Rattle.builtin.proofs.Tables.{lm-obeys, lm-root, sam-obeys, sam-root, srm-o
 use Rattle.bits.proofs.Access.{fetched-Short, fetched-Bits}
 use Rattle.messages.proofs.Tests.{tested-long, tested-empty, tested-version, tested-subtype, tested-fine}
 use borrow.Author.Needs.{needs}
-use Rattle.messages.proofs.lm_tested.Statement.{statement}
-use Rattle.messages.proofs.lm_tested.Tie as tie
-use Rattle.messages.proofs.lm_tested.Reads as reads
-use Rattle.messages.proofs.lm_tested.Lts as lts
+use Rattle.messages.proofs.reading.lm_tested.Statement.{statement}
+use Rattle.messages.proofs.reading.lm_tested.Tie as tie
+use Rattle.messages.proofs.reading.lm_tested.Reads as reads
+use Rattle.messages.proofs.reading.lm_tested.Lts as lts
 use Rattle.answer.proofs.Answer.accepted.Reads as accepted-reads
 use Rattle.answer.proofs.Answer.refused.Reads as refused-reads
 use Rattle.bits.proofs.fetch.Reads as fetch-reads

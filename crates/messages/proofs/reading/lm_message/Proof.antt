@@ -1,4 +1,4 @@
--- `messages::lm_message` meets its contract. What the tests refused; or the table's outcome.
+-- `messages::reading::lm_message` meets its contract. What the tests refused; or the table's outcome.
 -- Assumes nothing.
 use Prim.Native.Nat.{ℕ, _+_, _-_, _*_, _/_, _≤_, _<_}
 use mathlib.Core.Path.{_≡_, refl, sym, ap, _∙_}
@@ -9,12 +9,12 @@ use Rattle.builtin.specs.Tables.{lm, sam, srm}
 use Rattle.builtin.proofs.Tables.{lm-obeys, lm-root, sam-obeys, sam-root, srm-obeys, srm-root}
 use Rattle.messages.proofs.Tests.{fine, unfit}
 use borrow.Author.Needs.{needs}
-use Rattle.messages.proofs.lm_message.Statement.{statement}
-use Rattle.messages.proofs.lm_message.Tie as tie
-use Rattle.messages.proofs.lm_message.Reads as reads
-use Rattle.messages.proofs.lm_message.Lts as lts
+use Rattle.messages.proofs.reading.lm_message.Statement.{statement}
+use Rattle.messages.proofs.reading.lm_message.Tie as tie
+use Rattle.messages.proofs.reading.lm_message.Reads as reads
+use Rattle.messages.proofs.reading.lm_message.Lts as lts
 use Rattle.codec.proofs.reading.read_message.Reads as read-message-reads
-use Rattle.messages.proofs.lm_tested.Reads as lm-tested-reads
+use Rattle.messages.proofs.reading.lm_tested.Reads as lm-tested-reads
 
 lm-tested-requires : tie.Need-lm-tested-requires
 lm-tested-requires c κs = search needs
