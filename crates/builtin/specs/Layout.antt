@@ -1,5 +1,5 @@
--- The built-in tables row by row (document 01, "LM, SAM and SRM"): each row with its offset. proofs/Tables.antt shows that the
--- octets of Tables.antt are these rows. docs/MESSAGES.md has the ground of each.
+-- The built-in tables row by row (document 01, "LM, SAM and SRM"): each row with its offset. That the octets of
+-- Tables.antt are these rows is stated in Built.antt. docs/MESSAGES.md has the ground of each.
 use Prim.Native.Nat.{ℕ, zero, suc, _+_}
 use mathlib.Core.Bool.{cond}
 use mathlib.Core.List.{List, [], _∷_}

@@ -1,5 +1,5 @@
--- The verdict on a table: one pass over its rows that decides the rules. A reader need not believe it: proofs/Decides.antt
--- shows that it passes a table exactly when Rules.Obeys holds.
+-- The verdict on a table: one pass over its rows that decides the rules. A reader need not believe it: that
+-- it passes a table exactly when Rules.Obeys holds is Demand3's `checks` (encoding's specs/Demand3.antt).
 use Prim.Native.Nat.{ℕ, zero, suc, _+_}
 use mathlib.Core.Bool.{Bool, true, false, cond, not, _&&_}
 use mathlib.Core.List.{List, [], _∷_}
