@@ -8,7 +8,7 @@ use Rattle.table.specs.Rows.{rowAt}
 use Rattle.table.specs.Rules.{Starts, references, deepest, depth, Obeys}
 
 pub record Depths (t : List ℕ) : Type 0 where
-  -- one more than the deepest of the rows that it refers to, whatever their own depths are
+  -- one more than the deepest of the rows that it refers to
   pub row : Obeys t → (o : ℕ) → Starts t o → depth t o ≡ suc (deepest (depth t) (references (rowAt t o)))
   -- of none the deepest is 0; of some it is no less than each of them, and one of them
   pub none : (d : ℕ → ℕ) → deepest d [] ≡ 0
