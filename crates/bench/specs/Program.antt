@@ -1,6 +1,6 @@
 -- The bench program as a whole (document 01, "The bench program"): the text for its input, and what its turns are proved to give.
 -- No contract can speak of what was read or written. So the octets that a turn read are those that then stand in the input behind the
--- octets at hand, and the text that it wrote is the lines that stood in the output, which it then holds no more.
+-- octets at hand, and the text that it wrote is the lines that stood in the output, where it took them, which are then held no more.
 use Prim.Native.Nat.{ℕ, _+_, _<_}
 use mathlib.Core.Path.{_≡_}
 use mathlib.Core.List.{List, [], _∷_, _++_}

@@ -97,7 +97,7 @@ fn flush(output: &[u8], s: State) -> Led
     after_write(write(output, s.lines), s)
 }
 
-// What follows once a count of octets was read behind those at hand, which stand at the front and are so many.
+// What follows once a count of octets was read behind those at hand, which stand at the front and are `have`.
 fn after_read(s: State, have: usize, count: usize) -> Led
     requires { ⌜ have + count ≤ 65536 ⌝ }
     ensures { λ r. ⌜ r ≡ afterRead s have count ⌝ }
@@ -114,8 +114,8 @@ fn after_read(s: State, have: usize, count: usize) -> Led
     }
 }
 
-// Writes the lines that are held, and reads more of the input behind the octets at hand. There is room for some, so that none
-// read is the input's end.
+// Writes the lines that are held and, where the output took them, reads more of the input behind the octets at hand. There is
+// room for some, so that none read is the input's end.
 fn more(input: &mut [u8], output: &[u8], s: State) -> Led
     requires { ⌜ Held s × (s .end < s .from + 65535) × (length (now input) ≡ 65536) × (length (now output) ≡ 65536) ⌝ }
     ensures { λ r. ⌜ HeldAfter r × Read s (now (input .entry)) (now (input .exit)) r ⌝ }

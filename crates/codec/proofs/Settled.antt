@@ -1,29 +1,23 @@
 -- From the outcome that was kept to what the slices hold once their rest is zeroed; and from the check's answer to the verdict.
 -- Assumes nothing.
-use Prim.Native.Nat.{ℕ, zero, suc, _+_, _-_, _*_, _/_, _≤_, _<_}
-use mathlib.Core.Bool.{Bool, true, false, cond, _&&_}
-use mathlib.Core.Path.{_≡_, refl, sym, ap, ap₂, _∙_, subst}
+use Prim.Native.Nat.{ℕ, _-_, _*_, _≤_}
+use mathlib.Core.Bool.{Bool, true, false, cond}
+use mathlib.Core.Path.{_≡_, refl, sym, ap, _∙_}
 use mathlib.Core.List.{List, [], _∷_, _++_}
 use native.Mathlib.Omega.{arith}
-use native.Mathlib.Nat.{sub-zero, mul-comm}
-use lib.Dec.{leb, eqb}
+use lib.Dec.{leb}
 use lib.IntN.{ℤ, pos}
-use lib.ListN.{length, take, drop, set, replicate}
-use borrow.Author.Tests.{le-leb, lt-leb}
-use Rattle.bits.specs.Bits.{unpack}
-use Rattle.answer.specs.Numbers.{accepted, refused}
+use lib.ListN.{length, take, set, replicate}
 use Rattle.answer.specs.declared.Answer.{Answer}
 use Rattle.answer.specs.declared.Answer.the-variants.{Accepted, Refused}
 use Rattle.answer.specs.declared.Counts.{Counts}
 use Rattle.answer.specs.declared.Refusal.{Refusal}
-use Rattle.values.specs.Values.{setValue, storeAll, listOctets}
-use Rattle.values.proofs.Stores.{length-storeAll-set, length-storeAll-setValue, cleared-values, cleared-octets, length-listOctets}
+use Rattle.values.specs.Values.{setValue, listOctets}
+use Rattle.values.proofs.Stores.{cleared-values, cleared-octets, length-listOctets}
 use Rattle.table.specs.Rules.{Obeys}
 use Rattle.table.specs.Verdict.{Verdict, passed, broken, verdict, checked}
 use Rattle.table.proofs.Decides.{passes-exactly}
-use Rattle.encoding.specs.Items.{Items}
 use Rattle.encoding.specs.Rows.{asks}
-use Rattle.encoding.specs.Encoding.{size}
 use Rattle.encoding.specs.Reading.{ReadOutcome, accept, refuse, decode, onPassed, readOutcome, readAnswer, readValues}
 use Rattle.encoding.specs.Calls.{valuesAfter, packedAfter}
 use Rattle.encoding.proofs.Messages.{decode-fits}

@@ -1,5 +1,5 @@
--- The demands as they are proved, in one place; the proof is proofs/Demands.antt. Each name below is a record whose fields are
--- the demand's sentences, one by one. docs/CLAIMS.md goes through the customer's words and names the field for each.
+-- The demands as they are proved, in one place; the proof is proofs/Demands.antt. Each name below is a record; those of the
+-- demands have their sentences as fields, one by one. docs/CLAIMS.md goes through the customer's words and names the field for each.
 --
 -- Demand 1 is the contracts of the calls: none has a `requires`, and each says its answer and what every lent slice then holds.
 -- docs/CLAIMS.md lists them, and a test holds the list to the sources.

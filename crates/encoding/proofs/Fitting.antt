@@ -2,7 +2,7 @@
 -- Assumes nothing.
 use Prim.Native.Nat.{ℕ, zero, suc, _+_, _≤_, _<_, _^_, min}
 use mathlib.Core.Bool.{Bool, true, false, cond, and-eq-true-iff}
-use mathlib.Core.Path.{_≡_, refl, _∙_}
+use mathlib.Core.Path.{_≡_}
 use mathlib.Core.List.{List, [], _∷_, map}
 use native.Mathlib.Omega.{arith}
 use lib.Dec.{leb, eqb}
@@ -14,11 +14,11 @@ use Rattle.octets.specs.Numbers.{u16, u32, u16s, signed, there}
 use Rattle.octets.proofs.Numbers.{u16-lt, u32-lt, length-u16s, mag-signed}
 use Rattle.item.specs.Code.{Code, number, variable, lengthWithin, index, lowOf, allowsOffset, ofNatural, allows}
 use Rattle.item.proofs.Integers.{value-is, mag-add}
-use Rattle.table.specs.Rows.{Row, Number, Variable, FixedRun, CountedRun, Record, Choice, Octets, Unknown, rowOf, rowAt}
+use Rattle.table.specs.Rows.{Row, rowOf, rowAt}
 use Rattle.values.specs.TwosComplement.{Fitting}
 use Rattle.values.proofs.Stores.{fitting-cons}
 use Rattle.encoding.specs.Items.{Items, stop, ask, Allows}
-use Rattle.encoding.specs.Rows.{items, asks}
+use Rattle.encoding.specs.Rows.{asks}
 use Rattle.encoding.proofs.Every.{Every, Codes, every-items}
 
 -- every value that a code allows fits

@@ -1,5 +1,5 @@
--- Document 01's marked cases, P1 to P3 and P7 to P10 of "Messages on the edge": twelve, as one list. proofs/Cases.antt shows
--- that the definitions give them.
+-- Document 01's marked cases, P1 to P3 and P7 to P10 of "Messages on the edge": twelve, as one list. That the definitions
+-- give them is `Given`; the proof is proofs/Cases.antt.
 use Prim.Native.Nat.{ℕ}
 use mathlib.Core.Path.{_≡_}
 use mathlib.Core.List.{List, [], _∷_, map}

@@ -67,8 +67,8 @@ fn of_fetched(place: BitPlace, fetched: Fetched) -> Taken
     }
 }
 
-// Takes k bits at a place of the octets that are held. A place beyond the end is 2 at that place, but for no bits: of them none
-// is missing anywhere.
+// Takes k bits at a place of the octets that are held. A place beyond the end is 2 at that place, for k from 1 to 32; of no bits
+// none is missing anywhere.
 pub fn take_from(message: &[u8], place: BitPlace, k: u32) -> Taken
     ensures { λ r. ⌜ r ≡ taken (kept (now (message .entry))) (place .0) k ⌝ }
 {

@@ -2,7 +2,7 @@
 -- Assumes nothing.
 use Prim.Native.Nat.{ℕ, zero, suc, _≤_, _<_, max}
 use mathlib.Core.Bool.{Bool, true, false}
-use mathlib.Core.Path.{_≡_, refl, sym, ap, ap₂, _∙_}
+use mathlib.Core.Path.{_≡_, refl, ap, ap₂, _∙_}
 use mathlib.Core.List.{List, [], _∷_}
 use native.Mathlib.Omega.{arith}
 use lib.Dec.{leb}
@@ -10,7 +10,7 @@ use lib.ListN.{length, getD}
 use borrow.Author.Tests.{leb-true, leb-false}
 use Rattle.table.specs.Offsets.{earlier}
 use Rattle.table.specs.Rows.{rowAt}
-use Rattle.table.specs.Rules.{Starts, references, All, Earlier, deepest, depth, Obeys}
+use Rattle.table.specs.Rules.{references, All, Earlier, deepest, depth}
 use Rattle.table.specs.Depths.{Depths}
 use Rattle.table.proofs.Offsets.{earlier-is}
 use Rattle.table.proofs.Decides.{depth-row}

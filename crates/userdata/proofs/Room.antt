@@ -18,8 +18,8 @@ use Rattle.item.proofs.CodeLaws.{length-leading, decodeItem-sound}
 use Rattle.table.specs.Offsets.{earlier}
 use Rattle.table.specs.Rows.{Row, Number, Variable, FixedRun, CountedRun, Record, Choice, Octets, Unknown, rowOf, rowAt}
 use Rattle.table.specs.Rules.{All}
-use Rattle.encoding.specs.Items.{Items, stop, ask, _then_, one, times, Allows, encodingBits}
-use Rattle.encoding.specs.Rows.{presence, fields, rowItems, items, asks}
+use Rattle.encoding.specs.Items.{Items, stop, ask, Allows, encodingBits}
+use Rattle.encoding.specs.Rows.{rowItems, items, asks}
 use Rattle.encoding.specs.Encoding.{size}
 use Rattle.encoding.specs.Reading.{Reading, done, stuck, prepend, readOne, readItems, ReadOutcome, accept, refuse, allZero, closeRead, decode}
 use Rattle.encoding.proofs.RowItems.{items-row}

@@ -70,7 +70,7 @@ fn header_values(message: &[u8]) -> usize
     end.count
 }
 
-// An answer that was refused, as where the user data stands.
+// An answer that was refused, as where the user data stands; no octets for one that was accepted.
 fn refused(answer: Answer) -> Found
     ensures { λ r. ⌜ r ≡ answerFound answer ⌝ }
 {

@@ -8,7 +8,7 @@ use lib.IntN.{ℤ, pos, negsuc}
 use lib.ListN.{length, getD, take, drop, length-drop}
 use lib.Seq.{length-take-le, take-add, getD-drop}
 use Rattle.values.specs.Values.{complement, uncomplement, littleEndian, littleNumber, valueOctets, listOctets, valuesFrom, valuesIn}
-use Rattle.values.specs.TwosComplement.{Fitting, TwosComplement}
+use Rattle.values.specs.TwosComplement.{TwosComplement}
 use Rattle.values.proofs.Complement.{complement-uncomplement}
 use Rattle.values.proofs.LittleEndian.{littleEndian-lt, littleNumber-littleEndian, littleNumber-lt, littleEndian-littleNumber}
 use Rattle.values.proofs.Stores.{length-valueOctets, valuesIn-listOctets}

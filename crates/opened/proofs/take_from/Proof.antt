@@ -1,4 +1,4 @@
--- `opened::take_from` meets its contract: by the test of k, and then by what is fetched from the octets that are held.
+-- `opened::take_from` meets its contract: by the two tests of k, and then by what is fetched from the octets that are held.
 -- Assumes nothing.
 use Prim.Native.Nat.{ℕ, _+_, _-_, _*_, _<_}
 use mathlib.Core.Bool.{Bool, true, false, cond}
