@@ -11,8 +11,8 @@ use Rattle.table.specs.Root.{root, rootFrom, IsRoot}
 use Rattle.table.proofs.Decides.{passes-exactly}
 use Rattle.table.proofs.LastRow.{root-is}
 use Rattle.builtin.specs.Tables.{lm, sam, srm}
-use Rattle.builtin.specs.Layout.{rowsFrom, rows, lmRows, samRows, srmRows}
-use Rattle.builtin.specs.Built.{Built, BuiltIn}
+use Rattle.builtin.specs.Layout.{lmRows, samRows, srmRows}
+use Rattle.builtin.specs.Built.{Rows, Built, BuiltIn}
 
 -- ── each passes the check, and so obeys the rules ──
 
@@ -53,22 +53,30 @@ sam-root = all-roots .1 .0
 pub srm-root : root srm ≡ 180
 srm-root = all-roots .1 .1
 
--- ── the octets are the rows that specs/Layout.antt lists ──
+-- ── the octets are the rows that specs/Layout.antt lists: an offset and a row for each, and then the end ──
 
-all-rows : (rows lm ≡ lmRows) × ((rows sam ≡ samRows) × (rows srm ≡ srmRows))
-unfolding lm sam srm lmRows samRows srmRows u16 u32 signed u16s rowOf rowAt rowsFrom rows
-all-rows = (refl, (refl, refl))
+lm-rows : Rows lm 0 lmRows
+unfolding lm lmRows u16 u32 signed u16s rowOf rowAt rowLength
+lm-rows = (refl, refl, (refl, refl, (refl, refl, (refl, refl, (refl, refl, (refl, refl, (refl, refl, (refl, refl, (refl, refl, (refl, refl, (refl, refl, (refl, refl, (refl, refl, (refl, refl, (refl, refl, (refl, refl, (refl, refl, (refl, refl, (refl, refl, (refl, refl, refl))))))))))))))))))))
+
+sam-rows : Rows sam 0 samRows
+unfolding sam samRows u16 u32 signed u16s rowOf rowAt rowLength
+sam-rows = (refl, refl, (refl, refl, (refl, refl, (refl, refl, (refl, refl, (refl, refl, (refl, refl, (refl, refl, (refl, refl, (refl, refl, (refl, refl, (refl, refl, (refl, refl, (refl, refl, (refl, refl, (refl, refl, (refl, refl, (refl, refl, (refl, refl, (refl, refl, (refl, refl, (refl, refl, (refl, refl, (refl, refl, (refl, refl, refl)))))))))))))))))))))))))
+
+srm-rows : Rows srm 0 srmRows
+unfolding srm srmRows u16 u32 signed u16s rowOf rowAt rowLength
+srm-rows = (refl, refl, (refl, refl, (refl, refl, (refl, refl, (refl, refl, (refl, refl, (refl, refl, (refl, refl, (refl, refl, (refl, refl, (refl, refl, (refl, refl, (refl, refl, (refl, refl, (refl, refl, (refl, refl, (refl, refl, refl)))))))))))))))))
 
 -- ── together ──
 
-built : (t : List ℕ) (listed : List (ℕ × Row)) (last : ℕ) → verdict t ≡ passed → rows t ≡ listed → root t ≡ last → Built t listed last
+built : (t : List ℕ) (listed : List (ℕ × Row)) (last : ℕ) → verdict t ≡ passed → Rows t 0 listed → root t ≡ last → Built t listed last
 built t listed last p r e =
     let h = passes-exactly t .0 p in
     record { passes = ap (λ v. checked v) p; obeys = h; listed = r; root = subst (λ (o : ℕ). IsRoot t o) e (root-is t h) }
 
 pub built-in : BuiltIn
 built-in = record {
-  anLm = built lm lmRows 546 lm-passes (all-rows .0) lm-root;
-  aSam = built sam samRows 342 sam-passes (all-rows .1 .0) sam-root;
-  anSrm = built srm srmRows 180 srm-passes (all-rows .1 .1) srm-root;
+  anLm = built lm lmRows 546 lm-passes lm-rows lm-root;
+  aSam = built sam samRows 342 sam-passes sam-rows sam-root;
+  anSrm = built srm srmRows 180 srm-passes srm-rows srm-root;
 }

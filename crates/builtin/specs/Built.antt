@@ -1,21 +1,27 @@
 -- What holds of the built-in tables (document 01, "LM, SAM and SRM": all three pass the check): each passes, obeys the rules, is the
 -- rows that Layout.antt lists and no others, and ends with its root. The proof is proofs/Tables.antt.
-use Prim.Native.Nat.{ℕ}
+use Prim.Native.Nat.{ℕ, _+_}
 use mathlib.Core.Path.{_≡_}
-use mathlib.Core.List.{List}
+use mathlib.Core.List.{List, [], _∷_}
+use lib.ListN.{length}
 use Rattle.answer.specs.Numbers.{accepted}
-use Rattle.table.specs.Rows.{Row}
+use Rattle.table.specs.Rows.{Row, rowAt, rowLength}
 use Rattle.table.specs.Rules.{Obeys}
 use Rattle.table.specs.Verdict.{verdict, checked}
 use Rattle.table.specs.Root.{IsRoot}
 use Rattle.builtin.specs.Tables.{lm, sam, srm}
-use Rattle.builtin.specs.Layout.{rows, lmRows, samRows, srmRows}
+use Rattle.builtin.specs.Layout.{lmRows, samRows, srmRows}
+
+-- a list is the rows of a table from o on, one after another, each with its offset, and they fill the table exactly
+abbrev pub Rows : List ℕ → ℕ → List (ℕ × Row) → Type 0
+Rows t o [] = o ≡ length t
+Rows t o ((p, r) ∷ rest) = (p ≡ o) × (r ≡ rowAt t o) × Rows t (o + rowLength r) rest
 
 -- a table, the rows that it is, and the offset of the last
 pub record Built (table : List ℕ) (list : List (ℕ × Row)) (last : ℕ) : Type 0 where
   pub passes : checked (verdict table) ≡ accepted 0 0 0
   pub obeys : Obeys table
-  pub listed : rows table ≡ list
+  pub listed : Rows table 0 list
   pub root : IsRoot table last
 
 pub record BuiltIn : Type 0 where

@@ -1,22 +1,10 @@
 -- The built-in tables row by row (document 01, "LM, SAM and SRM"): each row with its offset. That the octets of
 -- Tables.antt are these rows is stated in Built.antt. docs/MESSAGES.md has the ground of each.
-use Prim.Native.Nat.{ℕ, zero, suc, _+_}
-use mathlib.Core.Bool.{cond}
+use Prim.Native.Nat.{ℕ}
 use mathlib.Core.List.{List, [], _∷_}
-use lib.Dec.{ltb}
 use lib.IntN.{pos, negsuc}
-use lib.ListN.{length, replicate}
-use Rattle.octets.specs.Numbers.{u16}
-use Rattle.table.specs.Rows.{Row, Number, Variable, FixedRun, CountedRun, Record, Choice, Octets, rowAt}
-
--- the rows of a table from o on, each with its offset, at most f of them
-unfoldable pub rowsFrom : ℕ → List ℕ → ℕ → List (ℕ × Row)
-rowsFrom zero t o = []
-rowsFrom (suc f) t o = cond (ltb o (length t)) ((o, rowAt t o) ∷ rowsFrom f t (o + u16 t o)) []
-
--- all rows of a table
-unfoldable pub rows : List ℕ → List (ℕ × Row)
-rows t = rowsFrom (length t) t 0
+use lib.ListN.{replicate}
+use Rattle.table.specs.Rows.{Row, Number, Variable, FixedRun, CountedRun, Record, Choice, Octets}
 
 -- The localized message, LM. The root is at 546.
 unfoldable pub lmRows : List (ℕ × Row)

@@ -41,7 +41,7 @@ some-deepest d r (q ∷ rs) = go (leb (deepest d (q ∷ rs)) (d r)) refl (some-d
 
 pub depths : (t : List ℕ) → Depths t
 depths t = record {
-  row = λ h o s. depth-row t o ∙ ap suc (earlier-depths t o (references (rowAt t o)) (h .rows o s .referencesEarlier));
+  row = λ o e. depth-row t o ∙ ap suc (earlier-depths t o (references (rowAt t o)) e);
   none = λ d. refl;
   each = no-deeper;
   one = λ d r rs. let x = some-deepest d r rs in (x .index, x .within, x .is);

@@ -54,6 +54,8 @@ unfolding valueOctets valuesIn
 twos-complement = record {
   eight = length-valueOctets;
   octets = λ v i. littleEndian-lt 8 (complement v) i;
+  none = refl;
+  lowest = λ o os. refl;
   natural = λ n h. spelled (pos n) (omega arith);
   negative = λ n h. let e = spelled (negsuc n) (omega arith) in omega (arith, e);
   one = refl;

@@ -16,7 +16,10 @@ pub record TwosComplement : Type 0 where
   -- a value is eight octets
   pub eight : (v : ℤ) → length (valueOctets v) ≡ 8
   pub octets : (v : ℤ) (i : ℕ) → getD (valueOctets v) i 0 < 256
-  -- from 0 on they spell it, the lowest octet first
+  -- octets spell a number, the lowest first: each counts 256 times as much as the one before it
+  pub none : littleNumber [] ≡ 0
+  pub lowest : (o : ℕ) (os : List ℕ) → littleNumber (o ∷ os) ≡ o + 256 * littleNumber os
+  -- from 0 on a value's octets spell it
   pub natural : (n : ℕ) → n < 2 ^ 63 → littleNumber (valueOctets (pos n)) ≡ n
   -- below 0 they spell what it and 2 ^ 64 add up to: -(n + 1), which is negsuc n, is 2 ^ 64 less n + 1
   pub negative : (n : ℕ) → n < 2 ^ 63 → littleNumber (valueOctets (negsuc n)) + suc n ≡ 2 ^ 64
