@@ -8,6 +8,7 @@ use Rattle.item.proofs.Ranges.{item-ranges}
 use Rattle.item.proofs.Widths.{item-widths}
 use Rattle.table.proofs.Depths.{depths}
 use Rattle.encoding.proofs.Demand2.{demand2}
+use Rattle.encoding.proofs.Filled.{filled-up}
 use Rattle.encoding.proofs.Demand3.{demand3}
 use Rattle.encoding.proofs.Demand3Octets.{demand3-octets}
 use Rattle.builtin.proofs.Tables.{built-in}
@@ -17,6 +18,7 @@ use Rattle.lm.proofs.UserData.{user-data-place}
 use Rattle.lm.proofs.Cases.{given}
 use Rattle.userdata.proofs.Placed.{user-data-placed}
 use Rattle.userdata.proofs.Cases.{user-data-cases}
+use Rattle.teyolxan.proofs.Told.{six-numbers}
 use Rattle.demands.specs.Demands.{Demands}
 
 pub demands : Demands
@@ -27,6 +29,8 @@ demands = record {
   inOctets = demand3-octets;
   anLm = demand3-lm;
   answers = inverse;
+  numbers = six-numbers;
+  filled = filled-up;
   depths = depths;
   ranges = item-ranges;
   width = smallest-width;

@@ -18,8 +18,9 @@ use Rattle.item.specs.Ranges.{ItemRanges}
 use Rattle.item.specs.Widths.{ItemWidths}
 use Rattle.table.specs.Depths.{Depths}
 use Rattle.encoding.specs.Demand2.{Demand2}
-use Rattle.encoding.specs.Demand3.{Demand3}
-use Rattle.encoding.specs.Demand3Octets.{AreOctets, Demand3Octets}
+use Rattle.encoding.specs.Filled.{FilledUp}
+use Rattle.encoding.specs.Demand3.{AreOctets, Demand3}
+use Rattle.encoding.specs.Demand3Octets.{Demand3Octets}
 use Rattle.builtin.specs.Built.{BuiltIn}
 use Rattle.lm.specs.Demand3Lm.{Demand3Lm}
 use Rattle.lm.specs.Demand2.{Demand2Lm}
@@ -27,6 +28,7 @@ use Rattle.lm.specs.UserData.{UserDataPlace}
 use Rattle.lm.specs.Cases.{Given}
 use Rattle.userdata.specs.Placed.{UserDataPlaced}
 use Rattle.userdata.specs.Cases.{UserDataCases}
+use Rattle.teyolxan.specs.Told.{SixNumbers}
 
 pub record Demands : Type 1 where
   -- ── demand 2 ──
@@ -42,8 +44,11 @@ pub record Demands : Type 1 where
   -- for an LM asked for by name, with version 3
   pub anLm : Demand3Lm
   -- ── document 01's own sentences behind them ──
-  -- an answer is what its number, place and counts are, and nothing else
+  -- an answer is what its number, place and counts are, and nothing else; a host is told them as six numbers
   pub answers : Inverse
+  pub numbers : SixNumbers
+  -- the answer followed by zeros
+  pub filled : FilledUp
   -- what a row's depth is
   pub depths : (t : List ℕ) → Depths t
   -- the bits of each kind of item: which values, how many bits, and that one can be told from the other

@@ -23,8 +23,8 @@ use Rattle.encoding.specs.Encoding.{encoding}
 use Rattle.encoding.specs.Reading.{ReadOutcome, accept, refuse, decode, onPassed, readOutcome, readAnswer, readValues}
 use Rattle.encoding.specs.Writing.{writeOutcome}
 use Rattle.encoding.specs.Calls.{filled, packedAfter, outputAfter, writeCall}
-use Rattle.encoding.specs.Demand3.{Message, Stands}
-use Rattle.encoding.specs.Demand3Octets.{AreOctets, WrittenAs, Demand3Octets}
+use Rattle.encoding.specs.Demand3.{AreOctets, Message, Stands}
+use Rattle.encoding.specs.Demand3Octets.{WrittenAs, Demand3Octets}
 use Rattle.encoding.proofs.Messages.{decode-fits}
 use Rattle.encoding.proofs.Demand3.{stands-decode, decode-stands, accepted-outcome, read-passed, demand3}
 use Rattle.encoding.proofs.Fitting.{fitting}

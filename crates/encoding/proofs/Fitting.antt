@@ -19,6 +19,7 @@ use Rattle.values.specs.TwosComplement.{Fitting}
 use Rattle.values.proofs.Stores.{fitting-cons}
 use Rattle.encoding.specs.Items.{Items, stop, ask, Allows}
 use Rattle.encoding.specs.Rows.{asks}
+use Rattle.encoding.specs.Demand3.{AreOctets}
 use Rattle.encoding.proofs.Every.{Every, Codes, every-items}
 
 -- every value that a code allows fits
@@ -53,7 +54,7 @@ branch-below (b ∷ bs) (suc n) e = omega (arith, branch-below bs n e)
 index-fits : (bs : List Bool) → length bs < 4294967296 → Fits (index bs)
 index-fits bs h = offsets-fit (index bs) (omega arith) (λ n a. omega (arith, branch-below bs n a))
 
-module _ (t : List ℕ) (octets : (i : ℕ) → getD t i 0 < 256) where
+module _ (t : List ℕ) (octets : AreOctets t) where
   branches-few : (o : ℕ) → length (map there (u16s t (o + 6) 2 (u16 t (o + 4)))) < 4294967296
   branches-few o = rw (length-map, length-u16s t 2 (o + 6) (u16 t (o + 4))) (omega (arith, u16-lt t octets (o + 4)))
 

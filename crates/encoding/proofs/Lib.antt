@@ -4,6 +4,7 @@ pub mod Written
 pub mod Walks
 pub mod Spells
 pub mod RowItems
+pub mod Filled
 pub mod Every
 pub mod Fitting
 pub mod Demand3

@@ -20,9 +20,13 @@ use Rattle.encoding.specs.Reading.{readOutcome}
 use Rattle.encoding.specs.Writing.{writeOutcome}
 use Rattle.encoding.specs.Calls.{filled, valuesAfter, outputAfter, readCall, writeCall}
 
+-- every number of a list is an octet
+abbrev pub AreOctets : List ℕ → Type 0
+AreOctets o = (i : ℕ) → getD o i 0 < 256
+
 -- a message: octets, at most 65,535 of them
 pub record Message (s : List ℕ) : Type 0 where
-  pub octets : (i : ℕ) → getD s i 0 < 256
+  pub octets : AreOctets s
   pub most : length s ≤ 65535
 
 -- a list that items allow, no longer than the slice, whose encoding is those octets

@@ -7,7 +7,7 @@ use mathlib.Core.Path.{_≡_}
 use mathlib.Core.Logic.{_↔_}
 use mathlib.Core.List.{List, _++_}
 use lib.IntN.{ℤ}
-use lib.ListN.{length, getD, take}
+use lib.ListN.{length, take}
 use Rattle.answer.specs.Numbers.{accepted}
 use Rattle.answer.specs.declared.Counts.{Counts}
 use Rattle.answer.specs.declared.Answer.the-variants.{Accepted}
@@ -20,10 +20,6 @@ use Rattle.encoding.specs.Reading.{readOutcome}
 use Rattle.encoding.specs.Writing.{writeOutcome}
 use Rattle.encoding.specs.Calls.{filled, packedAfter, outputAfter, readCall, writeCall}
 use Rattle.encoding.specs.Demand3.{Message, Stands}
-
--- every number of a list is an octet
-abbrev pub AreOctets : List ℕ → Type 0
-AreOctets o = (i : ℕ) → getD o i 0 < 256
 
 -- octets that are lent as a list are written as a message, into cap octets: it, then zeros, and its length as the count
 pub record WrittenAs (t octets s : List ℕ) (cap : ℕ) : Type 0 where

@@ -6,6 +6,7 @@ pub mod Walk
 pub mod Writing
 pub mod Spell
 pub mod Calls
+pub mod Filled
 pub mod Demand3
 pub mod Demand3Octets
 pub mod Demand2
