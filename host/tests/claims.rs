@@ -249,6 +249,14 @@ impl Function {
         uses.any(is_equation)
     }
 
+    /// Whether an equation of its contract says what it gives back, or what a field of that is.
+    fn answers(&self) -> bool {
+        let starts = ["(r ≡ ", "⌜ r ≡ ", "(now r ≡ ", "(now (r ."];
+        let ensures = self.clauses("ensures ");
+        let mut clauses = ensures.iter();
+        clauses.any(|clause| starts.iter().any(|start| clause.contains(start)))
+    }
+
     /// What keeps it from being a call.
     fn faults(&self) -> Vec<String> {
         let mut faults = Vec::new();
@@ -257,6 +265,9 @@ impl Function {
         }
         if self.clauses("ensures ").is_empty() {
             faults.push("has no `ensures`".to_string());
+        }
+        if self.signature.contains("->") && !self.answers() {
+            faults.push("leaves its answer free".to_string());
         }
         let free = self.lent().into_iter().filter(|name| !self.settles(name));
         faults.extend(free.map(|name| format!("leaves `{name}` free")));
