@@ -3,5 +3,3 @@ pub mod Width
 pub mod Splice
 pub mod Access
 pub mod Octets
-mod Parts
-mod Window

@@ -11,6 +11,10 @@ use Rattle.bits.specs.declared.Fetched.the-variants.{Bits, Short}
 use Rattle.bits.specs.declared.Stored.{Stored}
 use Rattle.bits.specs.declared.Stored.the-variants.{Next, Full}
 
+-- the most octets that a message has, and that an output counts as (document 01): a longer message is refused
+abbrev pub mostOctets : ℕ
+mostOctets = 65535
+
 abbrev pub placeAt : ℕ → BitPlace
 placeAt p = record { 0 = p }
 

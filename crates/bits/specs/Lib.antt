@@ -1,4 +1,3 @@
 pub mod Bits
 pub mod Width
 pub mod Access
-pub mod Window

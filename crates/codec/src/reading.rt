@@ -29,7 +29,7 @@ fn close(message: &[u8], end: Cursor) -> Answer
         return Answer::refused(Refusal::NOT_PADDING, after);
     }
     let all = BitPlace::after(OctetSize(message.len()));
-    let padding = bits::fetch(message, place, (all.0 - after) as u32);
+    let padding = access::fetch(message, place, (all.0 - after) as u32);
     let Fetched::Bits(number, _) = padding else {
         return Answer::refused(Refusal::NOT_PADDING, after);
     };

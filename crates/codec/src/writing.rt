@@ -43,7 +43,7 @@ fn finish(count: usize, output: &mut [u8], end: Cursor) -> Answer
     let place = end.place;
     let size = OctetSize::holding(place);
     let all = BitPlace::after(size);
-    bits::store(output, place, (all.0 - place.0) as u32, 0);
+    access::store(output, place, (all.0 - place.0) as u32, 0);
     Answer::accepted(0, BitPlace(0), size)
 }
 

@@ -56,11 +56,11 @@ fn variable(message: &[u8]) {
         return;
     }
     print_octets(message, message.len());
-    let r = item::read::variable(message, BitPlace(0));
+    let r = read_item::variable(message, BitPlace(0));
     match r {
         Item::Value(value, _) => {
             let mut output = [0u8; 4];
-            let put = item::write::variable(&mut output, BitPlace(0), value);
+            let put = write_item::variable(&mut output, BitPlace(0), value);
             print_value(value, &output, put);
         }
         Item::Bad(number) => print_refusal(number),
@@ -72,11 +72,11 @@ fn length(message: &[u8]) {
         return;
     }
     print_octets(message, message.len());
-    let r = item::read::length(message, BitPlace(0), 0, 16383);
+    let r = read_item::length(message, BitPlace(0), 0, 16383);
     match r {
         Item::Value(value, _) => {
             let mut output = [0u8; 4];
-            let put = item::write::length(&mut output, BitPlace(0), 0, 16383, value);
+            let put = write_item::length(&mut output, BitPlace(0), 0, 16383, value);
             print_value(value, &output, put);
         }
         Item::Bad(number) => print_refusal(number),

@@ -1,9 +1,7 @@
 pub mod CodeLaws
 pub mod Leading
 pub mod Branches
-pub mod Outcomes
-pub mod WholeOctet
 pub mod Integers
-pub mod Written
+pub mod Naturals
 pub mod Ranges
 pub mod Widths

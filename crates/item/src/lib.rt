@@ -1,16 +1,12 @@
-// One value's bits, read and written: a number, a variable number, a length, the index of a choice (document 01, "Bits and
-// values"). Reading tests in document 01's order and answers the value with the place after it, or the refusal's number;
-// the caller knows the place.
-pub mod read;
-pub mod write;
-
+// One value's bits: a number, a variable number, a length, the index of a choice (document 01, "Bits and values"). What reading
+// and writing such an item share; reading is in read_item, writing in write_item.
 use bits::BitPlace;
 ghost use mathlib.Core.Path.{_≡_};
 ghost use mathlib.Core.Bool.{false};
 ghost use Prim.Native.Nat.{suc, _+_, _*_, _≤_};
 ghost use lib.ListN.{length, getD};
 ghost use Rattle.bits.specs.Bits.{width};
-ghost use Rattle.item.specs.Code.{base};
+ghost use Rattle.item.specs.Code.{base, natural};
 ghost use Rattle.item.specs.Answers.{branchesAt};
 ghost use Rattle.item.specs.Steps.{leadingWorth};
 
@@ -28,26 +24,27 @@ pub enum Put {
 
 // The form of an item of whole octets, which has ones and a zero in front: its bits in all, what its leading bits are worth,
 // and what is added to the others in a variable number.
-struct Form {
-    bits: u32,
-    leading: u32,
-    base: u32,
+pub struct Form {
+    pub bits: u32,
+    pub leading: u32,
+    pub base: u32,
 }
 
 impl Form {
     // The least variable numbers that take two, three and four octets, and the largest.
-    const TWO_OCTETS: u32 = 128;
+    pub const TWO_OCTETS: u32 = 128;
 
-    const THREE_OCTETS: u32 = 16512;
+    pub const THREE_OCTETS: u32 = 16512;
 
-    const FOUR_OCTETS: u32 = 2113664;
+    pub const FOUR_OCTETS: u32 = 2113664;
 
-    const LARGEST: u32 = 270549119;
+    pub const LARGEST: u32 = 270549119;
+
     // The largest length.
-    const LARGEST_LENGTH: u32 = 16383;
+    pub const LARGEST_LENGTH: u32 = 16383;
 
     // The form with that many ones.
-    fn after_ones(ones: u32) -> Form
+    pub fn after_ones(ones: u32) -> Form
         requires { ⌜ ones ≤ 3 ⌝ }
         ensures { λ r. ⌜ (r .bits ≡ 8 * suc ones) × (r .leading ≡ leadingWorth ones) × (r .base ≡ base ones) ⌝ }
     {
@@ -87,7 +84,7 @@ pub fn width(span: u32) -> u32
 pub const RESERVED: usize = 65535;
 
 // Whether a choice of m branches, whose references stand in a table from an offset on, has a branch that is not reserved.
-fn has_branch(table: &[u8], from: usize, m: usize, i: usize) -> bool
+pub fn has_branch(table: &[u8], from: usize, m: usize, i: usize) -> bool
     requires { ⌜ (from + 2 * m ≤ length (now table)) × (length (now table) ≤ 65535) ⌝ }
     ensures { λ r. ⌜ r ≡ getD (branchesAt (now (table .entry)) from m) i false ⌝ }
 {
@@ -95,4 +92,11 @@ fn has_branch(table: &[u8], from: usize, m: usize, i: usize) -> bool
         return false;
     }
     octets::u16_at(table, from + 2 * i) != RESERVED
+}
+
+// A value as a count, 0 where it is negative.
+pub fn count_of(value: i64) -> usize
+    ensures { λ r. ⌜ r ≡ natural value ⌝ }
+{
+    if value < 0 { 0 } else { value as usize }
 }

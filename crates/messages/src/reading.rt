@@ -20,14 +20,14 @@ fn lm_tested(message: &[u8]) -> Answer
     if 65535 < message.len() {
         return Answer::refused(Refusal::TOO_LONG, 0);
     }
-    let version = bits::fetch(message, BitPlace(5), 3);
+    let version = access::fetch(message, BitPlace(5), 3);
     let Fetched::Bits(number, _) = version else {
         return Answer::refused(Refusal::MESSAGE_ENDS, 0);
     };
     if number != 3 {
         return Answer::refused(Refusal::WRONG_VERSION, 5);
     }
-    let subtype = bits::fetch(message, BitPlace(0), 4);
+    let subtype = access::fetch(message, BitPlace(0), 4);
     let Fetched::Bits(branch, _) = subtype else {
         return Answer::refused(Refusal::MESSAGE_ENDS, 0);
     };

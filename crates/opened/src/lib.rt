@@ -78,7 +78,7 @@ pub fn take_from(message: &[u8], place: BitPlace, k: u32) -> Taken
     if k == 0 {
         return Taken::Number(0, place);
     }
-    of_fetched(place, bits::fetch(held(message), place, k))
+    of_fetched(place, access::fetch(held(message), place, k))
 }
 
 // Where taking leaves an opened message: k on, or where it was.

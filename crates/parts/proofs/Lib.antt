@@ -1,4 +1,3 @@
-pub mod Naturals
 pub mod Runs
 pub mod Choices
 pub mod Records

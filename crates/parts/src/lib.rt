@@ -1,17 +1,9 @@
-// What reading and writing the rows of a table share: a value as a count, and the mask of a record's fields.
+// What reading and writing the rows of a table share: the mask of a record's fields.
 ghost use mathlib.Core.Path.{_≡_};
 ghost use mathlib.Core.Bool.{false};
 ghost use Prim.Native.Nat.{_<_, _≤_, _^_};
 ghost use lib.ListN.{getD};
 ghost use Rattle.bits.specs.Bits.{bitsOf};
-ghost use Rattle.item.specs.Code.{natural};
-
-// A value as a count, 0 where it is negative.
-pub fn count_of(value: i64) -> usize
-    ensures { λ r. ⌜ r ≡ natural value ⌝ }
-{
-    if value < 0 { 0 } else { value as usize }
-}
 
 // Whether a mask of so many fields marks a field, the first field on top.
 pub fn is_marked(mask: u32, fields: usize, field: usize) -> bool

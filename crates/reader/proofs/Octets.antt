@@ -15,7 +15,7 @@ use Rattle.bits.proofs.Bits.{length-unpack, numberOf-take-lt}
 use Rattle.item.specs.Code.{number}
 use Rattle.item.specs.Answers.{itemAt}
 use Rattle.item.specs.declared.Item.the-variants.{Value}
-use Rattle.item.proofs.Outcomes.{front-inside, number-is}
+use Rattle.read_item.proofs.Outcomes.{front-inside, number-is}
 use Rattle.values.specs.Values.{setValue, storeAll}
 use Rattle.runs.specs.Runs.{octetValues}
 use Rattle.encoding.specs.Items.{Items, one, times}

@@ -51,7 +51,7 @@ fn count_of(item: Item) -> usize
 {
     match item {
         Item::Bad(_) => 0,
-        Item::Value(value, _) => parts::count_of(value),
+        Item::Value(value, _) => item::count_of(value),
     }
 }
 
@@ -80,7 +80,7 @@ fn begin_number(
 {
     let low = Row::low_at(table, at);
     let span = Row::span_at(table, at);
-    let item = item::read::number(message, cursor.place, low, span as u32);
+    let item = read_item::number(message, cursor.place, low, span as u32);
     whole(kept(item, values, packed, room, cursor))
 }
 
@@ -97,7 +97,7 @@ fn begin_variable(
     requires { ⌜ length (now message) ≤ 65535 ⌝ }
     ensures { λ r. ⌜ Begins (now (table .entry)) at (now (message .entry)) room (one Code.variable) (stateAt cursor (now (values .entry)) (now (packed .entry))) (now (values .exit)) (now (packed .exit)) r ⌝ }
 {
-    let item = item::read::variable(message, cursor.place);
+    let item = read_item::variable(message, cursor.place);
     whole(kept(item, values, packed, room, cursor))
 }
 
@@ -116,7 +116,7 @@ fn read_singly(
     let mut done = 0;
     let mut here = cursor;
     while done < count {
-        let item = item::read::octet(message, here.place);
+        let item = read_item::octet(message, here.place);
         let step = kept(item, values, packed, room, here);
         let Step::Past(next) = step else {
             return step;
@@ -165,7 +165,7 @@ fn begin_octets(
     ensures { λ r. ⌜ Begins (now (table .entry)) at (now (message .entry)) room (items (now (table .entry)) at) (stateAt cursor (now (values .entry)) (now (packed .entry))) (now (values .exit)) (now (packed .exit)) r ⌝ }
 {
     let most = Row::count_at(table, at);
-    let item = item::read::length(message, cursor.place, 0, most as u32);
+    let item = read_item::length(message, cursor.place, 0, most as u32);
     let step = kept(item, values, packed, room, cursor);
     let Step::Past(next) = step else {
         return whole(step);
@@ -189,7 +189,7 @@ fn begin_counted(
 {
     let most = Row::count_at(table, at);
     let row = Row::run_at(table, at);
-    let item = item::read::length(message, cursor.place, 0, most as u32);
+    let item = read_item::length(message, cursor.place, 0, most as u32);
     let step = kept(item, values, packed, room, cursor);
     let Step::Past(next) = step else {
         return whole(step);
@@ -211,7 +211,7 @@ fn begin_choice(
     ensures { λ r. ⌜ Begins (now (table .entry)) at (now (message .entry)) room (items (now (table .entry)) at) (stateAt cursor (now (values .entry)) (now (packed .entry))) (now (values .exit)) (now (packed .exit)) r ⌝ }
 {
     let branches = Row::count_at(table, at);
-    let item = item::read::index(message, cursor.place, table, at + Row::HEAD, branches);
+    let item = read_item::index(message, cursor.place, table, at + Row::HEAD, branches);
     let step = kept(item, values, packed, room, cursor);
     let Step::Past(next) = step else {
         return whole(step);
@@ -236,7 +236,7 @@ fn mark(
     if flag == 0 {
         return Begun::Fields(mask * 2 + 1, cursor);
     }
-    let item = item::read::number(message, cursor.place, 0, 1);
+    let item = read_item::number(message, cursor.place, 0, 1);
     let step = kept(item, values, packed, room, cursor);
     let Step::Past(next) = step else {
         return whole(step);

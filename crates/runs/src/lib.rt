@@ -33,7 +33,7 @@ fn read_numbers(message: &[u8], from: usize, into: u32, count: usize, values: &m
     let fit = fitting(values.len(), at, count);
     let mut done = 0;
     while done < fit {
-        values[at + done] = bits::octet_at(message, from + done, into) as i64;
+        values[at + done] = access::octet_at(message, from + done, into) as i64;
         done += 1;
     }
 }
@@ -46,7 +46,7 @@ fn read_packed(message: &[u8], from: usize, into: u32, count: usize, packed: &mu
     let fit = fitting(packed.len() / 8, at, count);
     let mut done = 0;
     while done < fit {
-        let octet = bits::octet_at(message, from + done, into);
+        let octet = access::octet_at(message, from + done, into);
         values::store_value(packed, at + done, octet as i64);
         done += 1;
     }
@@ -106,7 +106,7 @@ fn write_numbers(
         if !is_octet(value) {
             return done;
         }
-        bits::put_octet(output, at + done, into, octet_of(value));
+        access::put_octet(output, at + done, into, octet_of(value));
         done += 1;
     }
     done
@@ -130,7 +130,7 @@ fn write_packed(
         if !is_octet(value) {
             return done;
         }
-        bits::put_octet(output, at + done, into, octet_of(value));
+        access::put_octet(output, at + done, into, octet_of(value));
         done += 1;
     }
     done

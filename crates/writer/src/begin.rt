@@ -85,7 +85,7 @@ fn begin_number(
     };
     let low = Row::low_at(table, at);
     let span = Row::span_at(table, at);
-    let put = item::write::number(output, cursor.place, low, span as u32, value);
+    let put = write_item::number(output, cursor.place, low, span as u32, value);
     whole(moved(put, cursor.index, after))
 }
 
@@ -105,7 +105,7 @@ fn begin_variable(
     let Given::Value(value, after) = given else {
         return Begun::Refused(missing(cursor.index));
     };
-    let put = item::write::variable(output, cursor.place, value);
+    let put = write_item::variable(output, cursor.place, value);
     whole(moved(put, cursor.index, after))
 }
 
@@ -127,7 +127,7 @@ fn write_singly(
         let Given::Value(value, after) = given else {
             return Step::Refused(missing(here.index));
         };
-        let put = item::write::octet(output, here.place, value);
+        let put = write_item::octet(output, here.place, value);
         let step = moved(put, here.index, after);
         let Step::Past(next) = step else {
             return step;
@@ -174,12 +174,12 @@ fn begin_octets(
         return Begun::Refused(missing(cursor.index));
     };
     let most = Row::count_at(table, at);
-    let put = item::write::length(output, cursor.place, 0, most as u32, value);
+    let put = write_item::length(output, cursor.place, 0, most as u32, value);
     let step = moved(put, cursor.index, after);
     let Step::Past(next) = step else {
         return whole(step);
     };
-    let count = parts::count_of(value);
+    let count = item::count_of(value);
     whole(write_octets(count, values, packed, output, next))
 }
 
@@ -201,12 +201,12 @@ fn begin_counted(
     };
     let most = Row::count_at(table, at);
     let row = Row::run_at(table, at);
-    let put = item::write::length(output, cursor.place, 0, most as u32, value);
+    let put = write_item::length(output, cursor.place, 0, most as u32, value);
     let step = moved(put, cursor.index, after);
     let Step::Past(next) = step else {
         return whole(step);
     };
-    Begun::Run(parts::count_of(value), row, next)
+    Begun::Run(item::count_of(value), row, next)
 }
 
 // A choice: an index, which leaves the row of its branch.
@@ -226,12 +226,12 @@ fn begin_choice(
         return Begun::Refused(missing(cursor.index));
     };
     let branches = Row::count_at(table, at);
-    let put = item::write::index(output, cursor.place, table, at + Row::HEAD, branches, value);
+    let put = write_item::index(output, cursor.place, table, at + Row::HEAD, branches, value);
     let step = moved(put, cursor.index, after);
     let Step::Past(next) = step else {
         return whole(step);
     };
-    let row = Row::branch_at(table, at, parts::count_of(value));
+    let row = Row::branch_at(table, at, item::count_of(value));
     Begun::Branch(row, next)
 }
 
@@ -254,12 +254,12 @@ fn mark(
     let Given::Value(value, after) = given else {
         return Begun::Refused(missing(cursor.index));
     };
-    let put = item::write::number(output, cursor.place, 0, 1, value);
+    let put = write_item::number(output, cursor.place, 0, 1, value);
     let step = moved(put, cursor.index, after);
     let Step::Past(next) = step else {
         return whole(step);
     };
-    if parts::count_of(value) == 1 {
+    if item::count_of(value) == 1 {
         return Begun::Fields(mask * 2 + 1, next);
     }
     Begun::Fields(mask * 2, next)

@@ -18,7 +18,7 @@ use Rattle.opened.proofs.take_from.Statement.{statement}
 use Rattle.opened.proofs.take_from.Tie as tie
 use Rattle.opened.proofs.take_from.Reads as reads
 use Rattle.opened.proofs.take_from.Lts as lts
-use Rattle.bits.proofs.fetch.Reads as fetch-reads
+use Rattle.access.proofs.fetch.Reads as fetch-reads
 use Rattle.opened.proofs.held.Reads as held-reads
 use Rattle.opened.proofs.of_fetched.Reads as of-fetched-reads
 use Rattle.opened.proofs.refused.Reads as refused-reads

@@ -17,7 +17,7 @@ use Rattle.answer.proofs.Answer.accepted.Reads as accepted-reads
 use Rattle.answer.proofs.Answer.refused.Reads as refused-reads
 use Rattle.bits.proofs.BitPlace.after.Reads as after-reads
 use Rattle.bits.proofs.OctetSize.holding.Reads as holding-reads
-use Rattle.bits.proofs.fetch.Reads as fetch-reads
+use Rattle.access.proofs.fetch.Reads as fetch-reads
 
 holding-requires : tie.Need-holding-requires
 holding-requires c κs = search needs

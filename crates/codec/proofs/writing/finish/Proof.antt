@@ -20,7 +20,7 @@ use Rattle.answer.proofs.Answer.accepted.Reads as accepted-reads
 use Rattle.answer.proofs.Answer.refused.Reads as refused-reads
 use Rattle.bits.proofs.BitPlace.after.Reads as after-reads
 use Rattle.bits.proofs.OctetSize.holding.Reads as holding-reads
-use Rattle.bits.proofs.store.Reads as store-reads
+use Rattle.access.proofs.store.Reads as store-reads
 
 refused-requires : tie.Need-refused-requires
 refused-requires c κs = search needs

@@ -16,7 +16,7 @@ use Rattle.messages.proofs.reading.lm_tested.Reads as reads
 use Rattle.messages.proofs.reading.lm_tested.Lts as lts
 use Rattle.answer.proofs.Answer.accepted.Reads as accepted-reads
 use Rattle.answer.proofs.Answer.refused.Reads as refused-reads
-use Rattle.bits.proofs.fetch.Reads as fetch-reads
+use Rattle.access.proofs.fetch.Reads as fetch-reads
 
 refused-requires : tie.Need-refused-requires
 refused-requires c κs = search needs

@@ -2,7 +2,7 @@
 -- Assumes nothing.
 use mathlib.Core.Path.{sym, ap, _∙_}
 use borrow.Author.Needs.{needs}
-use Rattle.parts.proofs.Naturals.{held}
+use Rattle.item.proofs.Naturals.{held}
 use Rattle.reader.specs.Reads.{countOf}
 use Rattle.reader.proofs.begin.count_of.Statement.{statement}
 use Rattle.reader.proofs.begin.count_of.Tie as tie

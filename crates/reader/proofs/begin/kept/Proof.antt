@@ -2,7 +2,7 @@
 -- Assumes nothing.
 use borrow.Author.Tests.{le-leb, lt-leb}
 use mathlib.Core.Path.{refl}
-use Rattle.parts.proofs.Naturals.{held}
+use Rattle.item.proofs.Naturals.{held}
 use borrow.Author.Needs.{needs}
 use Rattle.reader.proofs.begin.kept.Statement.{statement}
 use Rattle.reader.proofs.begin.kept.Tie as tie

@@ -16,7 +16,7 @@ use Rattle.table.proofs.Obeyed.{choice-row}
 use Rattle.encoding.specs.Items.{stop, ask}
 use Rattle.encoding.specs.Rows.{items}
 use Rattle.encoding.proofs.RowItems.{items-choice}
-use Rattle.parts.proofs.Naturals.{held}
+use Rattle.item.proofs.Naturals.{held}
 use Rattle.parts.proofs.Choices.{Chosen, chosen}
 use Rattle.writer.specs.Writes.{listIn, stateAt}
 use Rattle.writer.proofs.Flow.{continues-trans, continues-same}

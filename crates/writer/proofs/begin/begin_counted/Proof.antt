@@ -13,7 +13,7 @@ use Rattle.table.proofs.Obeyed.{counted-row}
 use Rattle.encoding.specs.Items.{ask, times}
 use Rattle.encoding.specs.Rows.{items}
 use Rattle.encoding.proofs.RowItems.{items-counted}
-use Rattle.parts.proofs.Naturals.{held}
+use Rattle.item.proofs.Naturals.{held}
 use Rattle.writer.specs.Writes.{listIn, stateAt}
 use Rattle.writer.proofs.Beginnings.{Putting, putting, first-missing, first-refused, first-put}
 use Rattle.writer.proofs.begin.begin_counted.Statement.{statement}

@@ -14,7 +14,7 @@ use Rattle.table.proofs.Obeyed.{octets-row}
 use Rattle.encoding.specs.Items.{ask, one, times}
 use Rattle.encoding.specs.Rows.{items}
 use Rattle.encoding.proofs.RowItems.{items-octets}
-use Rattle.parts.proofs.Naturals.{held}
+use Rattle.item.proofs.Naturals.{held}
 use Rattle.writer.specs.Writes.{listIn, stateAt}
 use Rattle.writer.proofs.Beginnings.{Putting, putting, first-missing, first-refused, first-put, begins-writes}
 use Rattle.writer.proofs.begin.begin_octets.Statement.{statement}

@@ -10,7 +10,7 @@ use lib.IntN.{pos}
 use mir.Syntax.{w64}
 use mir.Val.{toZ, ofZ}
 use Rattle.item.specs.Code.{number, natural}
-use Rattle.parts.proofs.Naturals.{held}
+use Rattle.item.proofs.Naturals.{held}
 use Rattle.writer.specs.Writes.{listIn, stateAt}
 use Rattle.writer.proofs.Beginnings.{Putting, putting, marks-always, marks-missing, marks-refused, marks-bit}
 use Rattle.writer.proofs.begin.mark.Statement.{statement}

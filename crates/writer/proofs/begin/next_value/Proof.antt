@@ -6,7 +6,7 @@ use native.Mathlib.Numerals.{add-one}
 use borrow.Author.Needs.{needs}
 use denote.Ref.{now}
 use lib.ListN.{length-append}
-use Rattle.parts.proofs.Naturals.{held}
+use Rattle.item.proofs.Naturals.{held}
 use Rattle.values.specs.Values.{valuesIn}
 use Rattle.values.proofs.Stores.{length-valuesIn}
 use Rattle.writer.proofs.begin.next_value.Statement.{statement}

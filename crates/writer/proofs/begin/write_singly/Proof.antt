@@ -9,7 +9,7 @@ use lib.IntN.{pos}
 use lib.ListN.{length}
 use Rattle.item.specs.Code.{Code, number}
 use Rattle.encoding.specs.Items.{one, times}
-use Rattle.parts.proofs.Naturals.{held}
+use Rattle.item.proofs.Naturals.{held}
 use Rattle.parts.proofs.Runs.{times-none, run-first}
 use Rattle.writer.specs.Writes.{listIn, stateAt, Continues}
 use Rattle.writer.proofs.Flow.{continues-trans, continues-same, continues-end}

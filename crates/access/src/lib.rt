@@ -1,0 +1,121 @@
+// Bits of a message fetched as a number, up to 32 of them, and up to 32 stored. Both take whole octets, one or five at a time,
+// and no step for each bit.
+use bits::BitPlace;
+use bits::Fetched;
+use bits::OctetSize;
+use bits::Stored;
+ghost use mathlib.Core.Path.{_≡_};
+ghost use Prim.Native.Nat.{_+_, _-_, _*_, _%_, _<_, _≤_, _^_};
+ghost use lib.Dec.{leb};
+ghost use lib.ListN.{length, take, drop};
+ghost use Rattle.bits.specs.Bits.{numberOf, bitsOf, unpack};
+ghost use Rattle.bits.specs.Access.{fetched, stored, overwritten};
+
+// Whether the k bits from a place on lie within so many octets. They do where four octets follow the place's.
+fn inside(octets: usize, place: BitPlace, k: u32) -> bool
+    requires { ⌜ (octets ≤ 65535) × (k ≤ 32) ⌝ }
+    ensures { λ r. ⌜ r ≡ leb (place .0 + k) (8 * octets) ⌝ }
+{
+    let from = place.0;
+    let first = BitPlace::octets_before(place);
+    if first.0 + 4 < octets {
+        return true;
+    }
+    let end = BitPlace::after(OctetSize(octets));
+    let all = end.0;
+    if all < from {
+        return false;
+    }
+    k as usize <= all - from
+}
+
+// How many bits follow the k from a place on in the five octets that begin with the place's.
+fn bits_behind(place: BitPlace, k: u32) -> u32
+    requires { ⌜ k ≤ 32 ⌝ }
+    ensures { λ r. ⌜ r ≡ 40 - place .0 % 8 - k ⌝ }
+{
+    40 - BitPlace::bits_into_octet(place) - k
+}
+
+// The k bits from a place on, as a number.
+pub fn fetch(message: &[u8], place: BitPlace, k: u32) -> Fetched
+    requires { ⌜ (length (now message) ≤ 65535) × (k ≤ 32) ⌝ }
+    ensures { λ r. ⌜ r ≡ fetched (now (message .entry)) (place .0) k ⌝ }
+{
+    if !inside(message.len(), place, k) {
+        return Fetched::Short;
+    }
+    let from = place.0;
+    let first = BitPlace::octets_before(place);
+    let window = window::window(message, first.0);
+    let cut = (window >> bits_behind(place, k)) % window::power(k);
+    Fetched::Bits(cut as u32, BitPlace(from + k as usize))
+}
+
+// The eight bits that begin so many bits into an octet, all of them there. Without a test for each octet, so that a loop over
+// a run of them has none.
+pub fn octet_at(message: &[u8], at: usize, into: u32) -> u64
+    requires { ⌜ (into < 8) × (8 * at + into + 8 ≤ 8 * length (now message)) ⌝ }
+    ensures { λ r. ⌜ (r ≡ numberOf (take 8 (drop (8 * at + into) (unpack (now (message .entry)))))) × (r < 256) ⌝ }
+{
+    let first = window::octet_inside(message, at);
+    if into == 0 {
+        return first;
+    }
+    let second = window::octet_inside(message, at + 1);
+    ((256 * first + second) >> (8 - into)) % 256
+}
+
+// Stores the k bits of v from a place on, in the five octets that begin with the place's; every other bit stays.
+fn store_wide(output: &mut [u8], place: BitPlace, k: u32, v: u32) -> Stored
+    requires { ⌜ (length (now output) ≤ 65535) × (k ≤ 32) × (v < 2 ^ k) ⌝ }
+    ensures { λ r. ⌜ (r ≡ stored (now (output .entry)) (place .0) k) × (unpack (now (output .exit)) ≡ overwritten (unpack (now (output .entry))) (place .0) (bitsOf k v)) ⌝ }
+{
+    if !inside(output.len(), place, k) {
+        return Stored::Full;
+    }
+    let from = place.0;
+    let first = BitPlace::octets_before(place);
+    let at = first.0;
+    let window = window::window(output, at);
+    window::put_window(output, at, window::replace(window, bits_behind(place, k), k, v));
+    Stored::Next(BitPlace(from + k as usize))
+}
+
+// Stores the k bits of v from a place on; every other bit stays. One load and one store where they lie in one octet.
+pub fn store(output: &mut [u8], place: BitPlace, k: u32, v: u32) -> Stored
+    requires { ⌜ (length (now output) ≤ 65535) × (k ≤ 32) × (v < 2 ^ k) ⌝ }
+    ensures { λ r. ⌜ (r ≡ stored (now (output .entry)) (place .0) k) × (unpack (now (output .exit)) ≡ overwritten (unpack (now (output .entry))) (place .0) (bitsOf k v)) ⌝ }
+{
+    let from = place.0;
+    let first = BitPlace::octets_before(place);
+    let at = first.0;
+    if output.len() <= at {
+        return store_wide(output, place, k, v);
+    }
+    let end = BitPlace::bits_into_octet(place) + k;
+    if 8 < end {
+        return store_wide(output, place, k, v);
+    }
+    let octet = window::octet_inside(output, at);
+    output[at] = (window::replace(octet, 8 - end, k, v) % 256) as u8;
+    let next = from + k as usize;
+    Stored::Next(BitPlace(next))
+}
+
+// Stores an octet that begins so many bits into an octet of the output, all of it there; every other bit stays. Without a
+// test for each octet, as `octet_at`.
+pub fn put_octet(output: &mut [u8], at: usize, into: u32, octet: u8)
+    requires { ⌜ (into < 8) × (8 * at + into + 8 ≤ 8 * length (now output)) ⌝ }
+    ensures { λ _. ⌜ unpack (now (output .exit)) ≡ overwritten (unpack (now (output .entry))) (8 * at + into) (bitsOf 8 octet) ⌝ }
+{
+    if into == 0 {
+        output[at] = octet;
+        return;
+    }
+    let first = window::octet_inside(output, at);
+    let second = window::octet_inside(output, at + 1);
+    let pair = window::replace(256 * first + second, 8 - into, 8, octet as u32);
+    output[at] = (pair / 256 % 256) as u8;
+    output[at + 1] = (pair % 256) as u8;
+}

@@ -1,0 +1,175 @@
+// Reads one item of a message. The tests come in document 01's order; the answer is the value with the place after it, or the
+// refusal's number; the caller knows the place.
+use answer::Refusal;
+use bits::BitPlace;
+use bits::Fetched;
+use item::Form;
+use item::Item;
+ghost use mathlib.Core.Path.{_≡_};
+ghost use Prim.Native.Nat.{_+_, _*_, _≤_, _<_};
+ghost use lib.IntN.{pos};
+ghost use lib.ListN.{length, drop};
+ghost use lib.Signed.{mag};
+ghost use Rattle.bits.specs.Bits.{bitsOf, unpack};
+ghost use Rattle.item.specs.Code.{Code, onesUpTo};
+ghost use Rattle.item.specs.Answers.{itemAt, branchesAt};
+ghost use Rattle.read_item.specs.Steps.{frontOf, boundedLength};
+
+// The k bits from a place on. No bits are there at every place.
+fn bits_at(message: &[u8], place: BitPlace, k: u32) -> Fetched
+    requires { ⌜ (length (now message) ≤ 65535) × (k ≤ 32) ⌝ }
+    ensures { λ r. ⌜ r ≡ frontOf (drop (place .0) (unpack (now (message .entry)))) (place .0) k ⌝ }
+{
+    if k == 0 {
+        return Fetched::Bits(0, place);
+    }
+    access::fetch(message, place, k)
+}
+
+fn wide(x: u8) -> u32
+    ensures { λ r. ⌜ r ≡ x ⌝ }
+{
+    x as u32
+}
+
+// The eight bits from a place on: one load where they are an octet of the message.
+fn octet_at(message: &[u8], place: BitPlace) -> Fetched
+    requires { ⌜ length (now message) ≤ 65535 ⌝ }
+    ensures { λ r. ⌜ r ≡ frontOf (drop (place .0) (unpack (now (message .entry)))) (place .0) 8 ⌝ }
+{
+    let from = place.0;
+    let first = BitPlace::octets_before(place);
+    let at = first.0;
+    if BitPlace::bits_into_octet(place) != 0 {
+        return bits_at(message, place, 8);
+    }
+    if message.len() <= at {
+        return Fetched::Short;
+    }
+    Fetched::Bits(wide(message[at]), BitPlace(from + 8))
+}
+
+// A number: its distance above low, in the fewest bits for the span.
+pub fn number(message: &[u8], place: BitPlace, low: i64, span: u32) -> Item
+    requires { ⌜ (length (now message) ≤ 65535) × (mag low ≤ 2147483648) ⌝ }
+    ensures { λ r. ⌜ r ≡ itemAt (Code.number low span) (now (message .entry)) (place .0) ⌝ }
+{
+    let f = bits_at(message, place, item::width(span));
+    let Fetched::Bits(n, next) = f else {
+        return Item::Bad(Refusal::MESSAGE_ENDS);
+    };
+    if span < n {
+        return Item::Bad(Refusal::ABOVE_SPAN);
+    }
+    let value = low + n as i64;
+    Item::Value(value, next)
+}
+
+// An octet: a number from 0 to 255.
+pub fn octet(message: &[u8], place: BitPlace) -> Item
+    requires { ⌜ length (now message) ≤ 65535 ⌝ }
+    ensures { λ r. ⌜ r ≡ itemAt (Code.number (pos 0) 255) (now (message .entry)) (place .0) ⌝ }
+{
+    let f = octet_at(message, place);
+    let Fetched::Bits(n, next) = f else {
+        return Item::Bad(Refusal::MESSAGE_ENDS);
+    };
+    Item::Value(n as i64, next)
+}
+
+// How many ones stand in front of an octet, counted up to 4.
+fn ones_of(first: u32) -> u32
+    requires { ⌜ first < 256 ⌝ }
+    ensures { λ r. ⌜ r ≡ onesUpTo 4 (bitsOf 8 first) ⌝ }
+{
+    if first < 128 {
+        0
+    } else if first < 192 {
+        1
+    } else if first < 224 {
+        2
+    } else if first < 240 {
+        3
+    } else {
+        4
+    }
+}
+
+// A variable number.
+pub fn variable(message: &[u8], place: BitPlace) -> Item
+    requires { ⌜ length (now message) ≤ 65535 ⌝ }
+    ensures { λ r. ⌜ r ≡ itemAt Code.variable (now (message .entry)) (place .0) ⌝ }
+{
+    let f = octet_at(message, place);
+    let Fetched::Bits(first, next) = f else {
+        return Item::Bad(Refusal::MESSAGE_ENDS);
+    };
+    let ones = ones_of(first);
+    if ones == 0 {
+        return Item::Value(first as i64, next);
+    }
+    if 3 < ones {
+        return Item::Bad(Refusal::BAD_VARIABLE);
+    }
+    let form = Form::after_ones(ones);
+    let g = bits_at(message, place, form.bits);
+    let Fetched::Bits(n, after) = g else {
+        return Item::Bad(Refusal::MESSAGE_ENDS);
+    };
+    Item::Value((form.base + (n - form.leading)) as i64, after)
+}
+
+// A length that has its own form: whether it is within its row.
+fn bounded(n: u32, next: BitPlace, least: u32, most: u32) -> Item
+    ensures { λ r. ⌜ r ≡ boundedLength n next least most ⌝ }
+{
+    if n < least {
+        return Item::Bad(Refusal::ABOVE_MOST);
+    }
+    if most < n {
+        return Item::Bad(Refusal::ABOVE_MOST);
+    }
+    Item::Value(n as i64, next)
+}
+
+// A length, from least to most. Its tests come in document 01's order, which each refusal names.
+pub fn length(message: &[u8], place: BitPlace, least: u32, most: u32) -> Item
+    requires { ⌜ length (now message) ≤ 65535 ⌝ }
+    ensures { λ r. ⌜ r ≡ itemAt (Code.lengthWithin least most) (now (message .entry)) (place .0) ⌝ }
+{
+    let f = octet_at(message, place);
+    let Fetched::Bits(first, next) = f else {
+        return Item::Bad(Refusal::MESSAGE_ENDS); // its first octet
+    };
+    let ones = ones_of(first);
+    if ones == 0 {
+        return bounded(first, next, least, most);
+    }
+    if 1 < ones {
+        return Item::Bad(Refusal::BAD_LENGTH); // its first two bits
+    }
+    let form = Form::after_ones(ones);
+    let g = bits_at(message, place, form.bits);
+    let Fetched::Bits(n, after) = g else {
+        return Item::Bad(Refusal::MESSAGE_ENDS); // its second octet
+    };
+    if n - form.leading < Form::TWO_OCTETS {
+        return Item::Bad(Refusal::BAD_LENGTH); // the long form of a short length
+    }
+    bounded(n - form.leading, after, least, most)
+}
+
+// The index of a choice of m branches, whose references stand in a table from an offset on.
+pub fn index(message: &[u8], place: BitPlace, table: &[u8], from: usize, m: usize) -> Item
+    requires { ⌜ (length (now message) ≤ 65535) × (1 ≤ m) × (m ≤ 128) × (from + 2 * m ≤ length (now table)) × (length (now table) ≤ 65535) ⌝ }
+    ensures { λ r. ⌜ r ≡ itemAt (Code.index (branchesAt (now (table .entry)) from m)) (now (message .entry)) (place .0) ⌝ }
+{
+    let f = bits_at(message, place, item::width((m - 1) as u32));
+    let Fetched::Bits(n, next) = f else {
+        return Item::Bad(Refusal::MESSAGE_ENDS);
+    };
+    if item::has_branch(table, from, m, n as usize) {
+        return Item::Value(n as i64, next);
+    }
+    Item::Bad(Refusal::NO_BRANCH)
+}
