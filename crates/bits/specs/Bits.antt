@@ -1,7 +1,7 @@
 -- Bits, top bit first, as lists of Bool: the k bits of a number, the number of some bits, the bits of octets and the octets
 -- of bits (document 01, "Bits and values"; X.691, 11.3 and 11.5: a whole number in the fewest bits that its range needs).
 -- Definitions alone, each once over the width k. That `width` is the smallest is stated in Width.antt.
-use Prim.Native.Nat.{ℕ, zero, suc, _+_, _-_, _*_, _^_}
+use Prim.Native.Nat.{ℕ, zero, suc, _+_, _-_, _^_}
 use mathlib.Core.Bool.{Bool, true, false, cond}
 use mathlib.Core.List.{List, [], _∷_, _++_}
 use lib.Dec.{leb, ltb}

@@ -5,8 +5,8 @@ use mathlib.Core.Path.{_≡_}
 use mathlib.Core.List.{List, [], _∷_}
 use lib.ListN.{length}
 use Rattle.answer.specs.Numbers.{accepted}
-use Rattle.table.specs.Rows.{Row, rowAt, rowLength}
-use Rattle.table.specs.Rules.{Obeys}
+use Rattle.row.specs.Rows.{Row, rowAt, rowLength}
+use Rattle.rules.specs.Rules.{Obeys}
 use Rattle.table.specs.Verdict.{verdict, checked}
 use Rattle.table.specs.Root.{IsRoot}
 use Rattle.builtin.specs.Tables.{lm, sam, srm}

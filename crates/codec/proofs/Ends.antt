@@ -20,7 +20,7 @@ use Rattle.answer.specs.Numbers.{accepted, refused}
 use Rattle.answer.specs.declared.Answer.{Answer}
 use Rattle.answer.specs.declared.Answer.the-variants.{Accepted, Refused}
 use Rattle.answer.specs.declared.Refusal.{Refusal}
-use Rattle.table.specs.Rules.{Obeys}
+use Rattle.rules.specs.Rules.{Obeys}
 use Rattle.table.specs.Verdict.{Verdict, passed, broken, verdict, checked}
 use Rattle.table.proofs.Decides.{passes-exactly}
 use Rattle.encoding.specs.Items.{Items}

@@ -14,7 +14,7 @@ use Rattle.answer.specs.declared.Counts.{Counts}
 use Rattle.answer.specs.declared.Refusal.{Refusal}
 use Rattle.values.specs.Values.{setValue, listOctets}
 use Rattle.values.proofs.Stores.{cleared-values, cleared-octets, length-listOctets}
-use Rattle.table.specs.Rules.{Obeys}
+use Rattle.rules.specs.Rules.{Obeys}
 use Rattle.table.specs.Verdict.{Verdict, passed, broken, verdict, checked}
 use Rattle.table.proofs.Decides.{passes-exactly}
 use Rattle.encoding.specs.Rows.{asks}

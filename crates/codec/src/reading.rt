@@ -10,7 +10,7 @@ ghost use mathlib.Core.Path.{_≡_};
 ghost use Prim.Native.Nat.{_+_, _*_, _≤_, _<_};
 ghost use lib.ListN.{length, set};
 ghost use Rattle.values.specs.Values.{setValue};
-ghost use Rattle.table.specs.Rules.{Obeys};
+ghost use Rattle.rules.specs.Rules.{Obeys};
 ghost use Rattle.table.specs.Root.{root};
 ghost use Rattle.encoding.specs.Rows.{asks};
 ghost use Rattle.encoding.specs.Reading.{decode, readOutcome, readAnswer};

@@ -9,7 +9,7 @@ ghost use mathlib.Core.Path.{_≡_};
 ghost use mathlib.Core.List.{_++_};
 ghost use Prim.Native.Nat.{_+_, _*_, _≤_, _<_, min};
 ghost use lib.ListN.{length};
-ghost use Rattle.table.specs.Rules.{Obeys};
+ghost use Rattle.rules.specs.Rules.{Obeys};
 ghost use Rattle.table.specs.Root.{root};
 ghost use Rattle.encoding.specs.Rows.{asks};
 ghost use Rattle.encoding.specs.Writing.{encode, writeOutcome, writeAnswer};

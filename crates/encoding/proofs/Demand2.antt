@@ -10,10 +10,10 @@ use lib.ListN.{length, getD, List·getD-eq-default}
 use borrow.Author.Tests.{eqb-true}
 use Rattle.octets.specs.Numbers.{u16, there}
 use Rattle.item.specs.Code.{lengthWithin, index, natural}
-use Rattle.table.specs.Offsets.{earlier}
-use Rattle.table.specs.Rows.{Row, Number, Variable, FixedRun, CountedRun, Record, Choice, Octets, Unknown, rowOf, rowAt}
-use Rattle.table.specs.Rules.{All, Earlier, branches, references, Starts, Obeys}
-use Rattle.table.proofs.Offsets.{earlier-is, earlier-out}
+use Rattle.row.specs.Offsets.{earlier}
+use Rattle.row.specs.Rows.{Row, Number, Variable, FixedRun, CountedRun, Record, Choice, Octets, Unknown, rowOf, rowAt}
+use Rattle.rules.specs.Rules.{All, Earlier, branches, references, Starts, Obeys}
+use Rattle.row.proofs.Offsets.{earlier-is, earlier-out}
 use Rattle.table.proofs.LastRow.{root-is, is-root}
 use Rattle.encoding.specs.Items.{stop, ask, times, encodingBits}
 use Rattle.encoding.specs.Rows.{presence, rowItems, items, asks}

@@ -14,7 +14,7 @@ use borrow.Author.Tests.{leb-true, le-leb}
 use Rattle.answer.specs.Numbers.{accepted, refused}
 use Rattle.answer.specs.declared.Counts.{Counts}
 use Rattle.answer.specs.declared.Answer.the-variants.{Accepted, Refused}
-use Rattle.table.specs.Rules.{Obeys}
+use Rattle.rules.specs.Rules.{Obeys}
 use Rattle.table.specs.Verdict.{Verdict, passed, broken, verdict, checked}
 use Rattle.table.proofs.Decides.{passes-exactly}
 use Rattle.bits.proofs.Bits.{length-pack}

@@ -15,7 +15,7 @@ use Rattle.values.specs.Values.{listOctets, valuesIn}
 use Rattle.values.specs.TwosComplement.{Fitting}
 use Rattle.values.proofs.Stores.{length-listOctets, valuesIn-listOctets}
 use Rattle.values.proofs.TwosComplement.{twos-complement}
-use Rattle.table.specs.Rules.{Obeys}
+use Rattle.rules.specs.Rules.{Obeys}
 use Rattle.table.specs.Verdict.{Verdict, passed, broken, verdict}
 use Rattle.encoding.specs.Items.{encodingBits}
 use Rattle.encoding.specs.Rows.{asks}

@@ -11,9 +11,9 @@ use lib.ListN.{getD}
 use borrow.Author.Tests.{ltb-true}
 use Rattle.octets.specs.Numbers.{there}
 use Rattle.item.specs.Code.{Code, number, variable, lengthWithin, index, natural}
-use Rattle.table.specs.Offsets.{earlier}
-use Rattle.table.specs.Rows.{Row, Number, Variable, FixedRun, CountedRun, Record, Choice, Octets, Unknown, rowAt}
-use Rattle.table.specs.Rules.{All}
+use Rattle.row.specs.Offsets.{earlier}
+use Rattle.row.specs.Rows.{Row, Number, Variable, FixedRun, CountedRun, Record, Choice, Octets, Unknown, rowAt}
+use Rattle.rules.specs.Rules.{All}
 use Rattle.encoding.specs.Items.{Items, stop, ask, _then_, one, times}
 use Rattle.encoding.specs.Rows.{presence, fields, rowItems, items}
 use Rattle.encoding.proofs.RowItems.{items-row}

@@ -14,7 +14,7 @@ use Rattle.octets.specs.Numbers.{u16, u32, u16s, signed, there}
 use Rattle.octets.proofs.Numbers.{u16-lt, u32-lt, length-u16s, mag-signed}
 use Rattle.item.specs.Code.{Code, number, variable, lengthWithin, index, lowOf, allowsOffset, ofNatural, allows}
 use Rattle.item.proofs.Integers.{value-is, mag-add}
-use Rattle.table.specs.Rows.{Row, rowOf, rowAt}
+use Rattle.row.specs.Rows.{Row, rowOf, rowAt}
 use Rattle.values.specs.TwosComplement.{Fitting}
 use Rattle.values.proofs.Stores.{fitting-cons}
 use Rattle.encoding.specs.Items.{Items, stop, ask, Allows}

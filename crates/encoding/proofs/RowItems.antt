@@ -11,10 +11,10 @@ use Rattle.octets.specs.Numbers.{there}
 use Rattle.bits.specs.Bits.{bitsOf, width}
 use Rattle.item.specs.Code.{Code, number, variable, lengthWithin, index, natural, Got, got, bad, decodeItem}
 use Rattle.item.proofs.CodeLaws.{decodeItem-complete}
-use Rattle.table.specs.Offsets.{earlier}
-use Rattle.table.specs.Rows.{Row, Number, Variable, FixedRun, CountedRun, Record, Choice, Octets, Unknown, rowAt}
-use Rattle.table.specs.Rules.{All, Earlier, branches}
-use Rattle.table.proofs.Offsets.{earlier-is, byOffset-is}
+use Rattle.row.specs.Offsets.{earlier}
+use Rattle.row.specs.Rows.{Row, Number, Variable, FixedRun, CountedRun, Record, Choice, Octets, Unknown, rowAt}
+use Rattle.rules.specs.Rules.{All, Earlier, branches}
+use Rattle.row.proofs.Offsets.{earlier-is, byOffset-is}
 use Rattle.encoding.specs.Items.{Items, stop, ask, _then_, one, times}
 use Rattle.encoding.specs.Rows.{presence, fields, rowItems, items}
 use Rattle.encoding.specs.Walk.{Walk, walked, blocked, walk, after, next}

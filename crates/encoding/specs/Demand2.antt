@@ -6,8 +6,8 @@ use mathlib.Core.Logic.{_↔_}
 use mathlib.Core.List.{List}
 use lib.IntN.{ℤ}
 use lib.ListN.{length}
-use Rattle.table.specs.Rows.{rowAt}
-use Rattle.table.specs.Rules.{Starts, Obeys}
+use Rattle.row.specs.Rows.{rowAt}
+use Rattle.rules.specs.Rules.{Starts, Obeys}
 use Rattle.table.specs.Root.{root, IsRoot}
 use Rattle.encoding.specs.Items.{Allows, encodingBits}
 use Rattle.encoding.specs.Rows.{rowItems, items, asks}

@@ -11,7 +11,7 @@ use lib.ListN.{length, getD, take}
 use Rattle.answer.specs.Numbers.{accepted}
 use Rattle.answer.specs.declared.Counts.{Counts}
 use Rattle.answer.specs.declared.Answer.the-variants.{Accepted}
-use Rattle.table.specs.Rules.{Obeys}
+use Rattle.rules.specs.Rules.{Obeys}
 use Rattle.table.specs.Verdict.{verdict, checked}
 use Rattle.encoding.specs.Items.{Items, Allows, encodingBits}
 use Rattle.encoding.specs.Rows.{asks}

@@ -9,8 +9,8 @@ use lib.IntN.{ℤ, pos}
 use lib.ListN.{getD}
 use Rattle.octets.specs.Numbers.{there}
 use Rattle.item.specs.Code.{Code, number, variable, lengthWithin, index, natural}
-use Rattle.table.specs.Offsets.{byOffset}
-use Rattle.table.specs.Rows.{Row, Number, Variable, FixedRun, CountedRun, Record, Choice, Octets, Unknown, rowAt}
+use Rattle.row.specs.Offsets.{byOffset}
+use Rattle.row.specs.Rows.{Row, Number, Variable, FixedRun, CountedRun, Record, Choice, Octets, Unknown, rowAt}
 use Rattle.table.specs.Root.{root}
 use Rattle.encoding.specs.Items.{Items, stop, ask, _then_, one, times}
 

@@ -3,7 +3,7 @@ use mathlib.Core.Bool.{Bool, true}
 use mathlib.Core.Path.{_≡_}
 use mathlib.Core.List.{List, _++_}
 use lib.IntN.{ℤ}
-use Rattle.item.specs.Code.{Code, Got, got, decodeItem, allows, valueBits}
+use Rattle.item.specs.Code.{Code, got, decodeItem, allows, valueBits}
 
 pub record ItemLaws (c : Code) : Type 0 where
   -- reading what was written gives the value back

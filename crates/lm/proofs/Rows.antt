@@ -10,9 +10,9 @@ use lib.IntN.{ℤ, pos}
 use lib.ListN.{length, getD, drop, replicate}
 use Rattle.octets.specs.Numbers.{u16, u32, signed, u16s, there}
 use Rattle.bits.specs.Bits.{bitsOf, width, unpack}
-use Rattle.table.specs.Offsets.{earlier}
-use Rattle.table.specs.Rows.{Row, Number, Variable, FixedRun, CountedRun, Record, Choice, rowOf, rowAt}
-use Rattle.table.specs.Rows.{Octets as OctetsRow}
+use Rattle.row.specs.Offsets.{earlier}
+use Rattle.row.specs.Rows.{Row, Number, Variable, FixedRun, CountedRun, Record, Choice, rowOf, rowAt}
+use Rattle.row.specs.Rows.{Octets as OctetsRow}
 use Rattle.encoding.specs.Items.{Items, stop}
 use Rattle.encoding.specs.Rows.{presence, fields, rowItems, items, asks}
 use Rattle.encoding.proofs.RowItems.{items-row}

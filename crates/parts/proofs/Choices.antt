@@ -11,9 +11,9 @@ use Rattle.octets.specs.Numbers.{u16, u16s, there}
 use Rattle.octets.proofs.Numbers.{length-u16s, getD-u16s}
 use Rattle.item.specs.Code.{index, natural, ofNatural, allows}
 use Rattle.item.specs.Answers.{branchesAt}
-use Rattle.table.specs.Offsets.{earlier}
-use Rattle.table.specs.Rules.{Obeys, Starts, Earlier}
-use Rattle.table.proofs.Offsets.{earlier-is}
+use Rattle.row.specs.Offsets.{earlier}
+use Rattle.rules.specs.Rules.{Obeys, Starts, Earlier}
+use Rattle.row.proofs.Offsets.{earlier-is}
 use Rattle.table.proofs.Obeyed.{choice-row}
 use Rattle.encoding.specs.Items.{stop}
 use Rattle.encoding.specs.Rows.{items}

@@ -18,7 +18,7 @@ use Rattle.octets.proofs.Numbers.{length-u16s, getD-u16s}
 use Rattle.bits.specs.Bits.{bitsOf}
 use Rattle.bits.proofs.Bits.{length-bitsOf, bitsOf-append}
 use Rattle.item.specs.Code.{number, natural}
-use Rattle.table.specs.Rules.{Obeys, Starts}
+use Rattle.rules.specs.Rules.{Obeys, Starts}
 use Rattle.table.proofs.Obeyed.{record-row}
 use Rattle.encoding.specs.Items.{Items, stop, ask, _then_}
 use Rattle.encoding.specs.Rows.{presence, fields, items}

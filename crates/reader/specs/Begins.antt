@@ -6,7 +6,7 @@ use mathlib.Core.List.{List, _∷_}
 use lib.Dec.{eqb}
 use lib.IntN.{ℤ}
 use Rattle.octets.specs.Numbers.{u16}
-use Rattle.table.specs.Rules.{Earlier}
+use Rattle.rules.specs.Rules.{Earlier}
 use Rattle.encoding.specs.Items.{Items, stop, times}
 use Rattle.encoding.specs.Rows.{presence, items}
 use Rattle.parts.specs.Parts.{markedFields}

@@ -1,22 +1,23 @@
 -- The one pass of Verdict.antt decides the rules of Rules.antt: it passes a table exactly when the table obeys them.
 -- Assumes nothing.
-use Prim.Native.Nat.{ℕ, zero, suc, _+_, _-_, _*_, _≤_, _<_, max}
-use mathlib.Core.Bool.{Bool, true, false, cond, not, _&&_, _||_, false≢true, and-eq-true-iff}
+use Prim.Native.Nat.{ℕ, zero, suc, _+_, _-_, _≤_, _<_, max}
+use mathlib.Core.Bool.{Bool, true, false, cond, not, _&&_, false≢true, and-eq-true-iff}
 use mathlib.Core.Path.{_≡_, refl, sym, ap, ap₂, _∙_}
 use mathlib.Core.Logic.{_↔_, _≢_}
 use mathlib.Core.List.{List, [], _∷_}
 use native.Mathlib.Omega.{arith}
 use native.Mathlib.Decide.{ℕ-discrete}
-use lib.Dec.{leb, ltb, eqb}
-use lib.ListN.{length, getD, set, replicate, length-set, length-replicate}
+use lib.Dec.{leb, eqb}
+use lib.ListN.{length, set, replicate, length-set, length-replicate}
 use lib.Seq.{getD-set-same, getD-set-other}
-use borrow.Author.Tests.{leb-true, leb-false, ltb-true, eqb-true, eqb-false, le-leb, lt-ltb, eq-eqb, ne-eqb}
+use borrow.Author.Tests.{leb-true, leb-false, eqb-true, le-leb, eq-eqb, ne-eqb}
 use Rattle.octets.specs.Numbers.{u16}
-use Rattle.table.specs.Offsets.{earlier, byOffset}
-use Rattle.table.specs.Rows.{Row, Number, Variable, FixedRun, CountedRun, Record, Choice, Octets, Unknown, rowAt, rowLength}
-use Rattle.table.specs.Rules.{Reach, here, on, Starts, knownKind, numbersInBounds, references, hasBranch, deepest, depth, All, Earlier, RowObeys, Obeys}
-use Rattle.table.specs.Verdict.{depthIn, allPassed, rowDepth, rowTest, scan, obeys, Verdict, passed, broken, verdict}
-use Rattle.table.proofs.Offsets.{earlier-is, byOffset-is}
+use Rattle.row.specs.Offsets.{earlier}
+use Rattle.row.specs.Rows.{Row, Number, Variable, FixedRun, CountedRun, Record, Choice, Octets, Unknown, rowAt, rowLength}
+use Rattle.rules.specs.Rules.{Reach, here, on, knownKind, numbersInBounds, references, hasBranch, deepest, depth, All, Earlier, RowObeys, Obeys}
+use Rattle.rules.specs.Tests.{depthIn, allPassed, rowDepth, rowTest}
+use Rattle.table.specs.Verdict.{scan, obeys, passed, broken, verdict}
+use Rattle.row.proofs.Offsets.{earlier-is, byOffset-is}
 
 -- ── the scan decides the rules ──
 

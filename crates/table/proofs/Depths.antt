@@ -8,11 +8,11 @@ use native.Mathlib.Omega.{arith}
 use lib.Dec.{leb}
 use lib.ListN.{length, getD}
 use borrow.Author.Tests.{leb-true, leb-false}
-use Rattle.table.specs.Offsets.{earlier}
-use Rattle.table.specs.Rows.{rowAt}
-use Rattle.table.specs.Rules.{references, All, Earlier, deepest, depth}
+use Rattle.row.specs.Offsets.{earlier}
+use Rattle.row.specs.Rows.{rowAt}
+use Rattle.rules.specs.Rules.{references, All, Earlier, deepest, depth}
 use Rattle.table.specs.Depths.{Depths}
-use Rattle.table.proofs.Offsets.{earlier-is}
+use Rattle.row.proofs.Offsets.{earlier-is}
 use Rattle.table.proofs.Decides.{depth-row}
 
 -- rows before a row have the depths that they have anywhere

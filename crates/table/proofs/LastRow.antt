@@ -10,7 +10,7 @@ use lib.Dec.{leb}
 use lib.ListN.{length}
 use borrow.Author.Tests.{leb-true, leb-false}
 use Rattle.octets.specs.Numbers.{u16}
-use Rattle.table.specs.Rules.{Reach, here, Starts, Obeys}
+use Rattle.rules.specs.Rules.{Reach, here, Starts, Obeys}
 use Rattle.table.specs.Root.{rootFrom, root, IsRoot}
 use Rattle.table.proofs.Decides.{reach-le, reach-on, apart, ahead, row-four}
 

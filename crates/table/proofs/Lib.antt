@@ -1,11 +1,5 @@
-pub mod Offsets
 pub mod Decides
 pub mod Depths
 pub mod Obeyed
 pub mod LastRow
-pub mod Bools
-pub mod ByKind
-pub mod Steps
-pub mod Loops
-pub mod Halves
 pub mod Walk

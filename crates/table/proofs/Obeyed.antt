@@ -2,8 +2,8 @@
 -- that it refers to earlier rows.
 -- Assumes nothing.
 use Prim.Native.Nat.{ℕ, zero, suc, _+_, _-_, _*_, _≤_, _<_}
-use mathlib.Core.Bool.{Bool, true, false, cond, _&&_, false≢true, and-eq-true-iff}
-use mathlib.Core.Path.{_≡_, refl, sym, ap, ap₂, _∙_, subst}
+use mathlib.Core.Bool.{Bool, true, false, cond, false≢true, and-eq-true-iff}
+use mathlib.Core.Path.{_≡_, refl, sym, ap, _∙_, subst}
 use mathlib.Core.Logic.{_≢_}
 use mathlib.Core.List.{List, [], _∷_, map}
 use native.Mathlib.Omega.{arith}
@@ -12,11 +12,11 @@ use lib.ListN.{length, getD, List·getD-map}
 use borrow.Author.Tests.{leb-true, eqb-true, ne-eqb}
 use Rattle.octets.specs.Numbers.{u16, u32, signed, u16s, there}
 use Rattle.octets.proofs.Numbers.{length-u16s, getD-u16s}
-use Rattle.table.specs.Rows.{Row, Number, Variable, FixedRun, CountedRun, Record, Choice, Octets, Unknown, rowOf, rowAt, rowLength}
-use Rattle.table.specs.Rules.{Starts, All, Earlier, references, branches, within, flagsInBounds, knownKind, numbersInBounds, RowObeys, Obeys}
-use Rattle.table.proofs.Bools.{within-inside}
+use Rattle.row.specs.Rows.{Row, Number, Variable, FixedRun, CountedRun, Record, Choice, Octets, Unknown, rowOf, rowAt, rowLength, within}
+use Rattle.rules.specs.Rules.{Starts, All, Earlier, references, branches, flagsInBounds, knownKind, numbersInBounds, RowObeys, Obeys}
+use Rattle.row.proofs.Bools.{within-inside}
 use Rattle.table.proofs.Decides.{apart, row-four}
-use Rattle.table.proofs.ByKind.{known-kind}
+use Rattle.rules.proofs.ByKind.{known-kind}
 
 -- a row referred to is the start of a row
 pub earlier-starts : {t : List ℕ} {o r : ℕ} → Starts t o → Earlier t o r → Starts t r

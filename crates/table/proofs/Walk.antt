@@ -10,14 +10,15 @@ use lib.ListN.{length, set, replicate}
 use borrow.Author.Tests.{leb-true, eqb-true, le-leb, lt-leb, eq-eqb, ne-eqb}
 use Rattle.octets.specs.Numbers.{u16}
 use Rattle.answer.specs.Numbers.{accepted, refused}
-use Rattle.table.specs.Rows.{rowAt, rowLength}
-use Rattle.table.specs.Rules.{knownKind}
-use Rattle.table.specs.Verdict.{rowTest, rowDepth, scan, obeys, verdict, checked}
-use Rattle.table.specs.Steps.{spread, rowTested}
-use Rattle.table.specs.declared.rules.RowTest.the-variants.{Sound, Broken}
-use Rattle.table.proofs.Bools.{cond-second, and-false}
+use Rattle.row.specs.Rows.{rowAt, rowLength}
+use Rattle.rules.specs.Rules.{knownKind}
+use Rattle.rules.specs.Tests.{rowTest, rowDepth}
+use Rattle.table.specs.Verdict.{scan, obeys, verdict, checked}
+use Rattle.rules.specs.Steps.{spread, rowTested}
+use Rattle.rules.specs.declared.RowTest.the-variants.{Sound, Broken}
+use Rattle.row.proofs.Bools.{cond-second, and-false}
 use Rattle.table.proofs.Decides.{length-four}
-use Rattle.table.proofs.Halves.{length-even, spread-set, spread-zeros}
+use Rattle.rules.proofs.Halves.{length-even, spread-set, spread-zeros}
 
 -- ── one row ──
 

@@ -5,8 +5,8 @@ use Prim.Native.Nat.{ℕ, suc, _≤_, _<_}
 use mathlib.Core.Path.{_≡_}
 use mathlib.Core.List.{List, [], _∷_}
 use lib.ListN.{length, getD}
-use Rattle.table.specs.Rows.{rowAt}
-use Rattle.table.specs.Rules.{references, All, Earlier, deepest, depth}
+use Rattle.row.specs.Rows.{rowAt}
+use Rattle.rules.specs.Rules.{references, All, Earlier, deepest, depth}
 
 pub record Depths (t : List ℕ) : Type 0 where
   -- one more than the deepest of the rows that it refers to

@@ -1,12 +1,12 @@
 -- The root of a table: its last row (document 01, "Row layout").
-use Prim.Native.Nat.{ℕ, zero, suc, _+_, _<_}
-use mathlib.Core.Bool.{Bool, cond}
+use Prim.Native.Nat.{ℕ, zero, suc, _+_}
+use mathlib.Core.Bool.{cond}
 use mathlib.Core.Path.{_≡_}
 use mathlib.Core.List.{List}
 use lib.Dec.{leb}
 use lib.ListN.{length}
 use Rattle.octets.specs.Numbers.{u16}
-use Rattle.table.specs.Rules.{Starts}
+use Rattle.rules.specs.Rules.{Starts}
 
 -- the last row from o on, at most f rows ahead
 unfoldable pub rootFrom : ℕ → List ℕ → ℕ → ℕ

@@ -1,13 +1,11 @@
 // Tables: the row type, the check of a table against document 01's rules ("Row layout"), and what a table that passed it tells.
 pub mod passed;
-mod row;
-mod rules;
 
 use answer::Answer;
 use answer::Refusal;
 use bits::BitPlace;
 use bits::OctetSize;
-pub use row::Row;
+use row::Row;
 use rules::RowTest;
 ghost use mathlib.Core.Path.{_≡_};
 ghost use Rattle.answer.specs.Numbers.{refused, brokenTable};

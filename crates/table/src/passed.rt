@@ -1,5 +1,5 @@
 // What may be asked of a table that passed the check: a part, for the crates above.
-use crate::Row;
+use row::Row;
 ghost use mathlib.Core.Path.{_≡_};
 ghost use Rattle.table.specs.Verdict.{verdict, passed};
 ghost use Rattle.table.specs.Root.{root};

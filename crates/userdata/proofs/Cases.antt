@@ -3,8 +3,8 @@
 use mathlib.Core.Path.{refl}
 use Rattle.octets.specs.Numbers.{u16, u32, signed, u16s, there}
 use Rattle.bits.specs.Bits.{numberOf, bitsOf, width, unpack}
-use Rattle.table.specs.Offsets.{earlier, upTo, byOffset}
-use Rattle.table.specs.Rows.{rowOf, rowAt, rowLength}
+use Rattle.row.specs.Offsets.{earlier, upTo, byOffset}
+use Rattle.row.specs.Rows.{rowOf, rowAt, rowLength}
 use Rattle.table.specs.Root.{rootFrom, root}
 use Rattle.encoding.specs.Items.{one, times}
 use Rattle.encoding.specs.Rows.{presence, fields, rowItems, items, asks}

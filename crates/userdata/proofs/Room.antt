@@ -15,9 +15,9 @@ use Rattle.bits.specs.Bits.{width, unpack}
 use Rattle.bits.proofs.Bits.{length-bitsOf, length-unpack}
 use Rattle.item.specs.Code.{Code, number, variable, lengthWithin, index, indexWidth, spelling, natural, valueBits, Got, got, bad, provided, bitField, onesUpTo, octetField, leastOf, base, variableOnes, lengthOnes, lowOf, decodeOffset, above, decodeItem}
 use Rattle.item.proofs.CodeLaws.{length-leading, decodeItem-sound}
-use Rattle.table.specs.Offsets.{earlier}
-use Rattle.table.specs.Rows.{Row, Number, Variable, FixedRun, CountedRun, Record, Choice, Octets, Unknown, rowOf, rowAt}
-use Rattle.table.specs.Rules.{All}
+use Rattle.row.specs.Offsets.{earlier}
+use Rattle.row.specs.Rows.{Row, Number, Variable, FixedRun, CountedRun, Record, Choice, Octets, Unknown, rowOf, rowAt}
+use Rattle.rules.specs.Rules.{All}
 use Rattle.encoding.specs.Items.{Items, stop, ask, Allows, encodingBits}
 use Rattle.encoding.specs.Rows.{rowItems, items, asks}
 use Rattle.encoding.specs.Encoding.{size}

@@ -14,8 +14,8 @@ use Rattle.octets.specs.Numbers.{u16, u16s}
 use Rattle.bits.specs.Bits.{unpack}
 use Rattle.bits.proofs.Bits.{length-unpack}
 use Rattle.item.specs.Code.{natural}
-use Rattle.table.specs.Rows.{rowOf, rowAt}
-use Rattle.table.specs.Rules.{All, Starts, Earlier, references}
+use Rattle.row.specs.Rows.{rowOf, rowAt}
+use Rattle.rules.specs.Rules.{All, Starts, Earlier, references}
 use Rattle.table.proofs.LastRow.{root-is}
 use Rattle.encoding.specs.Items.{Items, stop, ask, _then_, Allows, encodingBits}
 use Rattle.encoding.specs.Rows.{items, asks, presence, fields}

@@ -11,7 +11,7 @@ use lib.ListN.{take, replicate}
 use Rattle.encoding.specs.Reading.{readOutcome, readAnswer, readValues}
 use Rattle.encoding.specs.Calls.{filled, valuesAfter}
 use Rattle.values.specs.Values.{listOctets}
-use Rattle.table.specs.Rules.{Obeys}
+use Rattle.rules.specs.Rules.{Obeys}
 use Rattle.table.proofs.Decides.{passes-exactly}
 use Rattle.codec.specs.Kept.{keptCount, messageOutcome}
 use Rattle.codec.proofs.Settled.{accepted-obeys, passed-outcome, broken-outcome, outcome-fits, count-is, settled-values, settled-packed}

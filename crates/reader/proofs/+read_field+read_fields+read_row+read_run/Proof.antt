@@ -33,8 +33,8 @@ use Rattle.reader.proofs.+read_field+read_fields+read_row+read_run.Lts-
 use Rattle.reader.proofs.read_run.Reads as read-run
 use Rattle.reader.proofs.read_run.Kinds as read-run-kinds
 use Rattle.reader.proofs.+read_field+read_fields+read_row+read_run.Lts-read_run as read-run-lts
-use Rattle.table.proofs.row.Row.count_at.Reads as count-at-reads
-use Rattle.table.proofs.row.Row.field_at.Reads as field-at-reads
+use Rattle.row.proofs.Row.count_at.Reads as count-at-reads
+use Rattle.row.proofs.Row.field_at.Reads as field-at-reads
 use Rattle.reader.proofs.begin.begin.Reads as begin-reads
 use Rattle.parts.proofs.is_marked.Reads as is-marked-reads
 use Rattle.reader.proofs.+read_field+read_fields+read_row+read_run.{statement}

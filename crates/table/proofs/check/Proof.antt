@@ -6,8 +6,8 @@ use denote.Ref.{now}
 use Prim.Native.Nat.{_≤_, _-_}
 use mathlib.Core.Path.{_≡_, sym, _∙_}
 use lib.ListN.{length, replicate}
-use Rattle.table.specs.Steps.{spread, rowTested}
-use Rattle.table.specs.declared.rules.RowTest.the-variants.{Sound}
+use Rattle.rules.specs.Steps.{spread, rowTested}
+use Rattle.rules.specs.declared.RowTest.the-variants.{Sound}
 use Rattle.table.proofs.Walk.{Left, left-begins, left-ends, left-broken, left-on, row-moves, small-broken, large-broken, scan-broken, scan-passed}
 use Rattle.table.proofs.check.Statement.{statement}
 use Rattle.table.proofs.check.Tie as tie

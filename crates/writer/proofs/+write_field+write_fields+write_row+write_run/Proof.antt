@@ -33,8 +33,8 @@ use Rattle.writer.proofs.+write_field+write_fields+write_row+write_run.
 use Rattle.writer.proofs.write_run.Reads as write-run
 use Rattle.writer.proofs.write_run.Kinds as write-run-kinds
 use Rattle.writer.proofs.+write_field+write_fields+write_row+write_run.Lts-write_run as write-run-lts
-use Rattle.table.proofs.row.Row.count_at.Reads as count-at-reads
-use Rattle.table.proofs.row.Row.field_at.Reads as field-at-reads
+use Rattle.row.proofs.Row.count_at.Reads as count-at-reads
+use Rattle.row.proofs.Row.field_at.Reads as field-at-reads
 use Rattle.parts.proofs.is_marked.Reads as is-marked-reads
 use Rattle.writer.proofs.begin.begin.Reads as begin-reads
 use Rattle.writer.proofs.+write_field+write_fields+write_row+write_run.{statement}

@@ -9,7 +9,7 @@ use mathlib.Core.Path.{subst}
 use mathlib.Core.List.{List, _++_, append-nil}
 use lib.IntN.{ℤ}
 use lib.ListN.{take, drop, length-take, length-drop, length-append}
-use Rattle.table.specs.Rules.{Obeys}
+use Rattle.rules.specs.Rules.{Obeys}
 use Rattle.table.proofs.Decides.{passes-exactly}
 use Rattle.values.specs.Values.{valuesIn, valuesFrom}
 use Rattle.encoding.specs.Rows.{asks}

@@ -9,7 +9,7 @@ use lib.ListN.{getD}
 use Rattle.octets.specs.Numbers.{u16, u16s}
 use Rattle.item.specs.Code.{index, natural}
 use Rattle.item.specs.Answers.{branchesAt}
-use Rattle.table.specs.Offsets.{earlier}
+use Rattle.row.specs.Offsets.{earlier}
 use Rattle.table.proofs.Obeyed.{choice-row}
 use Rattle.encoding.specs.Items.{stop, ask}
 use Rattle.encoding.specs.Rows.{items}

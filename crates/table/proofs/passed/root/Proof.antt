@@ -6,7 +6,7 @@ use Prim.Native.Nat.{_+_, _-_}
 use mathlib.Core.Path.{_≡_}
 use lib.ListN.{length}
 use Rattle.octets.specs.Numbers.{u16}
-use Rattle.table.specs.Rules.{here, Starts, Obeys}
+use Rattle.rules.specs.Rules.{here, Starts, Obeys}
 use Rattle.table.proofs.Decides.{reach-on, row-four, passes-exactly}
 use Rattle.table.proofs.Obeyed.{row-ends, row-starts-inside}
 use Rattle.table.proofs.LastRow.{is-root}

@@ -1,0 +1,4 @@
+pub mod ByKind
+pub mod Steps
+pub mod Loops
+pub mod Halves
