@@ -23,13 +23,14 @@ use Rattle.answer.specs.declared.Refusal.{Refusal}
 use Rattle.rules.specs.Rules.{Obeys}
 use Rattle.table.specs.Verdict.{Verdict, passed, broken, verdict, checked}
 use Rattle.table.proofs.Decides.{passes-exactly}
-use Rattle.encoding.specs.Items.{Items}
+use Rattle.items.specs.Items.{Items}
 use Rattle.encoding.specs.Rows.{asks}
-use Rattle.encoding.specs.Encoding.{size, padding, padded}
-use Rattle.encoding.specs.Writing.{WriteOutcome, written, unwritten, encode, onPassed, writeOutcome, writeAnswer, writeOctets}
-use Rattle.encoding.specs.Spell.{Spell, spelled, barred, spell, closeSpell}
+use Rattle.items.specs.Encoding.{size, padding, padded}
+use Rattle.items.specs.Writing.{WriteOutcome, written, unwritten, encode, writeAnswer, writeOctets}
+use Rattle.encoding.specs.Writing.{onPassed, writeOutcome}
+use Rattle.items.specs.Spell.{Spell, spelled, barred, spell, closeSpell}
 use Rattle.encoding.specs.Calls.{filled, outputAfter}
-use Rattle.encoding.proofs.Spells.{encode-spell, Within, spell-within}
+use Rattle.items.proofs.Spells.{encode-spell, Within, spell-within}
 use Rattle.writer.specs.declared.Cursor.{Cursor}
 use Rattle.writer.specs.declared.Step.{Step}
 use Rattle.writer.specs.declared.Step.the-variants.{Past, Refused as StepRefused}

@@ -20,11 +20,11 @@ use Rattle.answer.specs.declared.Answer.{Answer}
 use Rattle.answer.specs.declared.Answer.the-variants.{Accepted, Refused}
 use Rattle.answer.specs.declared.Refusal.{Refusal}
 use Rattle.values.specs.Values.{setValue, storeAll}
-use Rattle.encoding.specs.Items.{Items, encodingBits}
-use Rattle.encoding.specs.Encoding.{size}
-use Rattle.encoding.specs.Reading.{Reading, done, stuck, readItems, ReadOutcome, accept, refuse, allZero, closeRead, decode, readAnswer}
-use Rattle.encoding.specs.Walk.{Walk, walked, blocked, forget, walk}
-use Rattle.encoding.proofs.ReadItems.{read-sound}
+use Rattle.items.specs.Items.{Items, encodingBits}
+use Rattle.items.specs.Encoding.{size}
+use Rattle.items.specs.Reading.{Reading, done, stuck, readItems, ReadOutcome, accept, refuse, allZero, closeRead, decode, readAnswer}
+use Rattle.items.specs.Walk.{Walk, walked, blocked, forget, walk}
+use Rattle.items.proofs.ReadItems.{read-sound}
 use Rattle.reader.specs.declared.Cursor.{Cursor}
 use Rattle.reader.specs.declared.Step.{Step}
 use Rattle.reader.specs.declared.Step.the-variants.{Past, Refused as StepRefused}

@@ -18,9 +18,10 @@ use Rattle.rules.specs.Rules.{Obeys}
 use Rattle.table.specs.Verdict.{Verdict, passed, broken, verdict, checked}
 use Rattle.table.proofs.Decides.{passes-exactly}
 use Rattle.encoding.specs.Rows.{asks}
-use Rattle.encoding.specs.Reading.{ReadOutcome, accept, refuse, decode, onPassed, readOutcome, readAnswer, readValues}
+use Rattle.items.specs.Reading.{ReadOutcome, accept, refuse, decode, readAnswer, readValues}
+use Rattle.encoding.specs.Reading.{onPassed, readOutcome}
 use Rattle.encoding.specs.Calls.{valuesAfter, packedAfter}
-use Rattle.encoding.proofs.Messages.{decode-fits}
+use Rattle.items.proofs.Messages.{decode-fits}
 use Rattle.codec.specs.Kept.{KeptBy, keptCount, messageOutcome}
 
 -- ── the verdict ──

@@ -13,9 +13,9 @@ use Rattle.answer.specs.Numbers.{accepted, refused, notPadding, tooLong, wrongV
 use Rattle.answer.specs.declared.Answer.{Answer}
 use Rattle.answer.specs.declared.Answer.the-variants.{Accepted, Refused}
 use Rattle.values.specs.Values.{storeAll}
-use Rattle.encoding.specs.Encoding.{size}
-use Rattle.encoding.specs.Reading.{ReadOutcome, accept, refuse, allZero, decode}
-use Rattle.encoding.specs.Writing.{WriteOutcome, written, unwritten}
+use Rattle.items.specs.Encoding.{size}
+use Rattle.items.specs.Reading.{ReadOutcome, accept, refuse, allZero, decode}
+use Rattle.items.specs.Writing.{WriteOutcome, written, unwritten}
 use Rattle.encoding.specs.Rows.{asks}
 use Rattle.writer.specs.declared.Cursor.{Cursor as WriterCursor}
 use Rattle.writer.specs.declared.Step.{Step as WriterStep}

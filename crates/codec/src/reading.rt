@@ -13,7 +13,8 @@ ghost use Rattle.values.specs.Values.{setValue};
 ghost use Rattle.rules.specs.Rules.{Obeys};
 ghost use Rattle.table.specs.Root.{root};
 ghost use Rattle.encoding.specs.Rows.{asks};
-ghost use Rattle.encoding.specs.Reading.{decode, readOutcome, readAnswer};
+ghost use Rattle.items.specs.Reading.{decode, readAnswer};
+ghost use Rattle.encoding.specs.Reading.{readOutcome};
 ghost use Rattle.encoding.specs.Calls.{readCall, valuesAfter};
 ghost use Rattle.codec.specs.Kept.{KeptBy, closed, stepAnswer, keptCount, messageOutcome};
 

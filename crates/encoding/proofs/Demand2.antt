@@ -15,15 +15,15 @@ use Rattle.row.specs.Rows.{Row, Number, Variable, FixedRun, CountedRun, Record,
 use Rattle.rules.specs.Rules.{All, Earlier, branches, references, Starts, Obeys}
 use Rattle.row.proofs.Offsets.{earlier-is, earlier-out}
 use Rattle.table.proofs.LastRow.{root-is, is-root}
-use Rattle.encoding.specs.Items.{stop, ask, times, encodingBits}
+use Rattle.items.specs.Items.{stop, ask, times, encodingBits}
 use Rattle.encoding.specs.Rows.{presence, rowItems, items, asks}
-use Rattle.encoding.specs.Encoding.{size}
-use Rattle.encoding.specs.Reading.{accept}
-use Rattle.encoding.specs.Writing.{written}
+use Rattle.items.specs.Encoding.{size}
+use Rattle.items.specs.Reading.{accept}
+use Rattle.items.specs.Writing.{written}
 use Rattle.encoding.specs.Demand2.{Demand2}
 use Rattle.encoding.proofs.RowItems.{items-row, fields-earlier, branch-back}
-use Rattle.encoding.proofs.Messages.{decode-sound}
-use Rattle.encoding.proofs.Written.{encode-complete, encode-sound}
+use Rattle.items.proofs.Messages.{decode-sound}
+use Rattle.items.proofs.Written.{encode-complete, encode-sound}
 use Rattle.encoding.proofs.Demand3.{stands-decode, decode-stands, length-encoding, read-passed, write-passed}
 
 -- a branch that is not there has no row: its reference is that of a reserved branch

@@ -1,32 +1,32 @@
 -- Demand 3 holds of every table.
 -- Assumes nothing.
-use Prim.Native.Nat.{ℕ, zero, suc, _+_, _-_, _*_, _≤_, _<_, min}
-use mathlib.Core.Bool.{Bool, true, false, cond}
-use mathlib.Core.Path.{_≡_, refl, sym, ap, ap₂, _∙_}
+use Prim.Native.Nat.{ℕ, _-_, _≤_}
+use mathlib.Core.Path.{_≡_, refl, sym, ap, _∙_}
 use mathlib.Core.Logic.{_↔_}
-use mathlib.Core.List.{List, [], _∷_, _++_}
+use mathlib.Core.List.{List}
 use native.Mathlib.Omega.{arith}
-use lib.Dec.{leb}
 use lib.IntN.{ℤ, pos}
-use lib.ListN.{length, getD, replicate, take}
+use lib.ListN.{length, replicate, take}
 use lib.Seq.{take-append-seam}
-use borrow.Author.Tests.{leb-true, le-leb}
-use Rattle.answer.specs.Numbers.{accepted, refused}
+use borrow.Author.Tests.{le-leb}
+use Rattle.answer.specs.Numbers.{accepted}
 use Rattle.answer.specs.declared.Counts.{Counts}
-use Rattle.answer.specs.declared.Answer.the-variants.{Accepted, Refused}
+use Rattle.answer.specs.declared.Answer.the-variants.{Accepted}
 use Rattle.rules.specs.Rules.{Obeys}
 use Rattle.table.specs.Verdict.{Verdict, passed, broken, verdict, checked}
 use Rattle.table.proofs.Decides.{passes-exactly}
 use Rattle.bits.proofs.Bits.{length-pack}
-use Rattle.encoding.specs.Items.{Items, Allows, encodingBits}
+use Rattle.items.specs.Items.{Items, encodingBits}
 use Rattle.encoding.specs.Rows.{asks}
-use Rattle.encoding.specs.Encoding.{size, encoding}
-use Rattle.encoding.specs.Reading.{ReadOutcome, accept, refuse, decode, readOutcome, readAnswer, readValues}
-use Rattle.encoding.specs.Writing.{WriteOutcome, written, unwritten, encode, writeOutcome, writeAnswer, writeOctets}
-use Rattle.encoding.specs.Calls.{filled, valuesAfter, outputAfter, readCall, writeCall}
+use Rattle.items.specs.Encoding.{size, encoding}
+use Rattle.items.specs.Reading.{ReadOutcome, accept, refuse, decode, readAnswer}
+use Rattle.encoding.specs.Reading.{readOutcome}
+use Rattle.items.specs.Writing.{written, encode, writeAnswer}
+use Rattle.encoding.specs.Writing.{writeOutcome}
+use Rattle.encoding.specs.Calls.{valuesAfter, outputAfter}
 use Rattle.encoding.specs.Demand3.{Message, Stands, Demand3}
-use Rattle.encoding.proofs.Messages.{Accepted as AcceptedAs, exact, one-list, one-message, decode-complete, decode-sound}
-use Rattle.encoding.proofs.Written.{encode-complete}
+use Rattle.items.proofs.Messages.{one-list, one-message, decode-complete, decode-sound}
+use Rattle.items.proofs.Written.{encode-complete}
 
 -- the check's answer is accepted exactly for the verdict passed
 checked-passed : (v : Verdict) → (checked v ≡ accepted 0 0 0) ↔ (v ≡ passed)

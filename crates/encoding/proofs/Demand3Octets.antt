@@ -17,15 +17,16 @@ use Rattle.values.proofs.Stores.{length-listOctets, valuesIn-listOctets}
 use Rattle.values.proofs.TwosComplement.{twos-complement}
 use Rattle.rules.specs.Rules.{Obeys}
 use Rattle.table.specs.Verdict.{Verdict, passed, broken, verdict}
-use Rattle.encoding.specs.Items.{encodingBits}
+use Rattle.items.specs.Items.{encodingBits}
 use Rattle.encoding.specs.Rows.{asks}
-use Rattle.encoding.specs.Encoding.{encoding}
-use Rattle.encoding.specs.Reading.{ReadOutcome, accept, refuse, decode, onPassed, readOutcome, readAnswer, readValues}
+use Rattle.items.specs.Encoding.{encoding}
+use Rattle.items.specs.Reading.{ReadOutcome, accept, refuse, decode, readAnswer, readValues}
+use Rattle.encoding.specs.Reading.{onPassed, readOutcome}
 use Rattle.encoding.specs.Writing.{writeOutcome}
 use Rattle.encoding.specs.Calls.{filled, packedAfter, outputAfter, writeCall}
 use Rattle.encoding.specs.Demand3.{AreOctets, Message, Stands}
 use Rattle.encoding.specs.Demand3Octets.{WrittenAs, Demand3Octets}
-use Rattle.encoding.proofs.Messages.{decode-fits}
+use Rattle.items.proofs.Messages.{decode-fits}
 use Rattle.encoding.proofs.Demand3.{stands-decode, decode-stands, accepted-outcome, read-passed, demand3}
 use Rattle.encoding.proofs.Fitting.{fitting}
 

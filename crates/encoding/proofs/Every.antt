@@ -14,7 +14,7 @@ use Rattle.item.specs.Code.{Code, number, variable, lengthWithin, index, natura
 use Rattle.row.specs.Offsets.{earlier}
 use Rattle.row.specs.Rows.{Row, Number, Variable, FixedRun, CountedRun, Record, Choice, Octets, Unknown, rowAt}
 use Rattle.rules.specs.Rules.{All}
-use Rattle.encoding.specs.Items.{Items, stop, ask, _then_, one, times}
+use Rattle.items.specs.Items.{Items, stop, ask, _then_, one, times}
 use Rattle.encoding.specs.Rows.{presence, fields, rowItems, items}
 use Rattle.encoding.proofs.RowItems.{items-row}
 

@@ -17,7 +17,7 @@ use Rattle.item.proofs.Integers.{value-is, mag-add}
 use Rattle.row.specs.Rows.{Row, rowOf, rowAt}
 use Rattle.values.specs.TwosComplement.{Fitting}
 use Rattle.values.proofs.Stores.{fitting-cons}
-use Rattle.encoding.specs.Items.{Items, stop, ask, Allows}
+use Rattle.items.specs.Items.{Items, stop, ask, Allows}
 use Rattle.encoding.specs.Rows.{asks}
 use Rattle.encoding.specs.Demand3.{AreOctets}
 use Rattle.encoding.proofs.Every.{Every, Codes, every-items}

@@ -1,8 +1,3 @@
-pub mod ReadItems
-pub mod Messages
-pub mod Written
-pub mod Walks
-pub mod Spells
 pub mod RowItems
 pub mod Filled
 pub mod Every

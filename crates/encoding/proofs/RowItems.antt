@@ -1,24 +1,23 @@
 -- What each kind of row asks for, from the row at its offset; and the steps of its loops.
 -- Assumes nothing.
-use Prim.Native.Nat.{ℕ, zero, suc, _+_, _-_, _*_, _≤_, _<_}
+use Prim.Native.Nat.{ℕ, zero, suc, _+_, _-_, _<_}
 use mathlib.Core.Bool.{Bool, true, false, cond, false≢true}
-use mathlib.Core.Path.{_≡_, refl, sym, ap, ap₂, _∙_, subst, fun-ext}
+use mathlib.Core.Path.{_≡_, refl, ap, ap₂, _∙_, subst, fun-ext}
 use mathlib.Core.List.{List, [], _∷_, _++_, map, append-assoc}
-use native.Mathlib.Omega.{arith}
 use lib.IntN.{ℤ, pos}
-use lib.ListN.{length, getD, drop}
+use lib.ListN.{getD}
 use Rattle.octets.specs.Numbers.{there}
 use Rattle.bits.specs.Bits.{bitsOf, width}
-use Rattle.item.specs.Code.{Code, number, variable, lengthWithin, index, natural, Got, got, bad, decodeItem}
+use Rattle.item.specs.Code.{number, variable, lengthWithin, index, natural, got, decodeItem}
 use Rattle.item.proofs.CodeLaws.{decodeItem-complete}
 use Rattle.row.specs.Offsets.{earlier}
-use Rattle.row.specs.Rows.{Row, Number, Variable, FixedRun, CountedRun, Record, Choice, Octets, Unknown, rowAt}
+use Rattle.row.specs.Rows.{Row, Number, Variable, FixedRun, CountedRun, Record, Choice, Octets, rowAt}
 use Rattle.rules.specs.Rules.{All, Earlier, branches}
 use Rattle.row.proofs.Offsets.{earlier-is, byOffset-is}
-use Rattle.encoding.specs.Items.{Items, stop, ask, _then_, one, times}
+use Rattle.items.specs.Items.{Items, stop, ask, _then_, one, times}
 use Rattle.encoding.specs.Rows.{presence, fields, rowItems, items}
-use Rattle.encoding.specs.Walk.{Walk, walked, blocked, walk, after, next}
-use Rattle.encoding.proofs.Walks.{walk-then, walk-stop}
+use Rattle.items.specs.Walk.{Walk, walked, blocked, walk, after, next}
+use Rattle.items.proofs.Walks.{walk-then}
 
 -- the equation by which a reader goes from row to row
 pub items-row : (t : List ℕ) (o : ℕ) → items t o ≡ rowItems (earlier stop o (items t)) (rowAt t o)

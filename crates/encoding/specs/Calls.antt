@@ -6,8 +6,10 @@ use lib.IntN.{ℤ, pos}
 use lib.ListN.{length, replicate}
 use Rattle.answer.specs.declared.Answer.{Answer}
 use Rattle.values.specs.Values.{listOctets}
-use Rattle.encoding.specs.Reading.{ReadOutcome, readOutcome, readAnswer, readValues}
-use Rattle.encoding.specs.Writing.{WriteOutcome, writeOutcome, writeAnswer, writeOctets}
+use Rattle.items.specs.Reading.{ReadOutcome, readAnswer, readValues}
+use Rattle.encoding.specs.Reading.{readOutcome}
+use Rattle.items.specs.Writing.{WriteOutcome, writeAnswer, writeOctets}
+use Rattle.encoding.specs.Writing.{writeOutcome}
 
 -- a list at the front of a slice of n, and zeros after it
 abbrev pub filled : {A : Type 0} → A → ℕ → List A → List A

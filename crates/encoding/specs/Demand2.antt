@@ -9,11 +9,13 @@ use lib.ListN.{length}
 use Rattle.row.specs.Rows.{rowAt}
 use Rattle.rules.specs.Rules.{Starts, Obeys}
 use Rattle.table.specs.Root.{root, IsRoot}
-use Rattle.encoding.specs.Items.{Allows, encodingBits}
+use Rattle.items.specs.Items.{Allows, encodingBits}
 use Rattle.encoding.specs.Rows.{rowItems, items, asks}
-use Rattle.encoding.specs.Encoding.{encoding}
-use Rattle.encoding.specs.Reading.{readOutcome, accept}
-use Rattle.encoding.specs.Writing.{writeOutcome, written}
+use Rattle.items.specs.Encoding.{encoding}
+use Rattle.encoding.specs.Reading.{readOutcome}
+use Rattle.items.specs.Reading.{accept}
+use Rattle.encoding.specs.Writing.{writeOutcome}
+use Rattle.items.specs.Writing.{written}
 use Rattle.encoding.specs.Demand3.{Message, Stands}
 
 pub record Demand2 (t : List ℕ) : Type 0 where

@@ -5,7 +5,7 @@
 use Prim.Native.Nat.{ℕ, _≤_, _<_}
 use mathlib.Core.Path.{_≡_}
 use mathlib.Core.Logic.{_↔_}
-use mathlib.Core.List.{List, _++_}
+use mathlib.Core.List.{List}
 use lib.IntN.{ℤ, pos}
 use lib.ListN.{length, getD, take}
 use Rattle.answer.specs.Numbers.{accepted}
@@ -13,9 +13,9 @@ use Rattle.answer.specs.declared.Counts.{Counts}
 use Rattle.answer.specs.declared.Answer.the-variants.{Accepted}
 use Rattle.rules.specs.Rules.{Obeys}
 use Rattle.table.specs.Verdict.{verdict, checked}
-use Rattle.encoding.specs.Items.{Items, Allows, encodingBits}
+use Rattle.items.specs.Items.{Items, Allows, encodingBits}
 use Rattle.encoding.specs.Rows.{asks}
-use Rattle.encoding.specs.Encoding.{encoding}
+use Rattle.items.specs.Encoding.{encoding}
 use Rattle.encoding.specs.Reading.{readOutcome}
 use Rattle.encoding.specs.Writing.{writeOutcome}
 use Rattle.encoding.specs.Calls.{filled, valuesAfter, outputAfter, readCall, writeCall}

@@ -14,7 +14,7 @@ use Rattle.answer.specs.declared.Answer.the-variants.{Accepted}
 use Rattle.values.specs.Values.{listOctets, valuesIn}
 use Rattle.values.specs.TwosComplement.{Fitting}
 use Rattle.rules.specs.Rules.{Obeys}
-use Rattle.encoding.specs.Items.{Allows, encodingBits}
+use Rattle.items.specs.Items.{Allows, encodingBits}
 use Rattle.encoding.specs.Rows.{asks}
 use Rattle.encoding.specs.Reading.{readOutcome}
 use Rattle.encoding.specs.Writing.{writeOutcome}

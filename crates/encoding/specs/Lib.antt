@@ -1,10 +1,6 @@
-pub mod Items
 pub mod Rows
-pub mod Encoding
 pub mod Reading
-pub mod Walk
 pub mod Writing
-pub mod Spell
 pub mod Calls
 pub mod Filled
 pub mod Demand3

@@ -5,14 +5,14 @@ use Prim.Native.Nat.{ℕ, zero, suc}
 use mathlib.Core.Bool.{Bool, true, false}
 use mathlib.Core.List.{List, [], _∷_, map}
 use lib.Dec.{eqb}
-use lib.IntN.{ℤ, pos}
+use lib.IntN.{pos}
 use lib.ListN.{getD}
 use Rattle.octets.specs.Numbers.{there}
-use Rattle.item.specs.Code.{Code, number, variable, lengthWithin, index, natural}
+use Rattle.item.specs.Code.{number, variable, lengthWithin, index, natural}
 use Rattle.row.specs.Offsets.{byOffset}
 use Rattle.row.specs.Rows.{Row, Number, Variable, FixedRun, CountedRun, Record, Choice, Octets, Unknown, rowAt}
 use Rattle.table.specs.Root.{root}
-use Rattle.encoding.specs.Items.{Items, stop, ask, _then_, one, times}
+use Rattle.items.specs.Items.{Items, stop, ask, _then_, one, times}
 
 -- a presence bit for each optional field in order, each a value; then what the fields that are present ask for
 unfoldable pub presence : List ℕ → (List Bool → Items) → Items

@@ -2,7 +2,7 @@
 use mathlib.Core.Path.{_≡_, refl}
 use mathlib.Core.List.{[], _∷_}
 use lib.IntN.{pos}
-use Rattle.encoding.specs.Reading.{accept, refuse}
+use Rattle.items.specs.Reading.{accept, refuse}
 use Rattle.lines.specs.Text.{decimalWithin, decimal, signed, listed, numberLine, acceptedLine, refusedLine}
 use Rattle.frames.specs.Frames.{outcomeLine, lastLine}
 

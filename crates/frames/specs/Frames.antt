@@ -5,7 +5,8 @@ use mathlib.Core.List.{List, [], _∷_}
 use lib.Dec.{ltb, eqb}
 use lib.ListN.{length, take, drop}
 use Rattle.octets.specs.Numbers.{u16}
-use Rattle.encoding.specs.Reading.{ReadOutcome, accept, refuse, readOutcome}
+use Rattle.items.specs.Reading.{ReadOutcome, accept, refuse}
+use Rattle.encoding.specs.Reading.{readOutcome}
 use Rattle.builtin.specs.Tables.{sam, srm}
 use Rattle.lm.specs.ByName.{readLmOutcome}
 use Rattle.lines.specs.Text.{numberLine, acceptedLine, refusedLine}

@@ -10,13 +10,13 @@ use lib.IntN.{ℤ, pos, negsuc}
 use lib.ListN.{length, getD}
 use borrow.Author.Tests.{eqb-true}
 use Rattle.item.specs.Code.{ofNatural}
-use Rattle.encoding.specs.Items.{Allows, encodingBits}
+use Rattle.items.specs.Items.{Allows, encodingBits}
 use Rattle.encoding.specs.Rows.{asks}
-use Rattle.encoding.specs.Encoding.{padded, encoding}
-use Rattle.encoding.specs.Reading.{accept}
-use Rattle.encoding.specs.Writing.{WriteOutcome, written}
+use Rattle.items.specs.Encoding.{padded, encoding}
+use Rattle.items.specs.Reading.{accept}
+use Rattle.items.specs.Writing.{WriteOutcome, written}
 use Rattle.encoding.specs.Demand3.{Message}
-use Rattle.encoding.proofs.Written.{encode-sound}
+use Rattle.items.proofs.Written.{encode-sound}
 use Rattle.builtin.specs.Tables.{lm}
 use Rattle.lm.specs.ByName.{readLmOutcome, writeIf, writeLmOutcome}
 use Rattle.lm.specs.Clause5.{Lm, NHeader, nullNetworking, internalForwarding, nHopForwarding, nHeaderValues, nHeaderVersion, layoutBits, valuesOf, versionOf}

@@ -12,14 +12,14 @@ use borrow.Author.Tests.{le-leb, eqb-true, eq-eqb}
 use Rattle.bits.specs.Bits.{bitsOf, unpack}
 use Rattle.bits.proofs.Bits.{length-pack, unpack-pack}
 use Rattle.table.specs.Verdict.{checked}
-use Rattle.encoding.specs.Items.{encodingBits}
+use Rattle.items.specs.Items.{encodingBits}
 use Rattle.encoding.specs.Rows.{asks}
-use Rattle.encoding.specs.Encoding.{size, padding, padded, encoding}
-use Rattle.encoding.specs.Reading.{ReadOutcome, accept, readAnswer}
-use Rattle.encoding.specs.Writing.{written, writeAnswer}
+use Rattle.items.specs.Encoding.{size, padding, padded, encoding}
+use Rattle.items.specs.Reading.{ReadOutcome, accept, readAnswer}
+use Rattle.items.specs.Writing.{written, writeAnswer}
 use Rattle.encoding.specs.Calls.{valuesAfter, outputAfter}
 use Rattle.encoding.specs.Demand3.{Message, Stands}
-use Rattle.encoding.proofs.Messages.{one-list}
+use Rattle.items.proofs.Messages.{one-list}
 use Rattle.encoding.proofs.Demand3.{stands-decode, decode-stands, accepted-outcome, given, stands-encode}
 use Rattle.builtin.specs.Tables.{lm}
 use Rattle.builtin.proofs.Tables.{lm-passes}

@@ -10,7 +10,7 @@ use lib.ListN.{length, length-append}
 use lib.Seq.{take-at, drop-at}
 use Rattle.bits.specs.Bits.{bitsOf, unpack}
 use Rattle.bits.proofs.Bits.{length-bitsOf, numberOf-bitsOf}
-use Rattle.encoding.specs.Items.{Allows, encodingBits}
+use Rattle.items.specs.Items.{Allows, encodingBits}
 use Rattle.encoding.specs.Rows.{asks}
 use Rattle.builtin.specs.Tables.{lm}
 use Rattle.lm.specs.ByName.{lmVersion, lmSubtype}

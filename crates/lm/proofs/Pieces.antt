@@ -13,7 +13,7 @@ use lib.ListN.{length, getD, drop, replicate}
 use borrow.Author.Tests.{leb-true, leb-false, le-leb, lt-ltb, ltb-true}
 use Rattle.bits.specs.Bits.{bitsOf, width, unpack}
 use Rattle.item.specs.Code.{Code, number, variable, lengthWithin, index, lowOf, ofNatural, natural, allows, allowsOffset, valueBits, offsetBits, spelling, base, indexWidth}
-use Rattle.encoding.specs.Items.{Items, stop, ask, one, times}
+use Rattle.items.specs.Items.{Items, stop, ask, one, times}
 use Rattle.encoding.specs.Rows.{fields}
 use Rattle.lm.specs.Clause5.{inOrder, lengthBits, addressBits, Element, Extensions, absent, present, flag, flagValue, octetsValues, extensionsValues, extensionsBits, Each, Octets, ExtensionsWithin}
 use Rattle.lm.proofs.Spelling.{Spells, spells-as, spells-ask, spells-stop, spells-then, spells-times}

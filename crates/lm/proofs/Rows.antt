@@ -13,7 +13,7 @@ use Rattle.bits.specs.Bits.{bitsOf, width, unpack}
 use Rattle.row.specs.Offsets.{earlier}
 use Rattle.row.specs.Rows.{Row, Number, Variable, FixedRun, CountedRun, Record, Choice, rowOf, rowAt}
 use Rattle.row.specs.Rows.{Octets as OctetsRow}
-use Rattle.encoding.specs.Items.{Items, stop}
+use Rattle.items.specs.Items.{Items, stop}
 use Rattle.encoding.specs.Rows.{presence, fields, rowItems, items, asks}
 use Rattle.encoding.proofs.RowItems.{items-row}
 use Rattle.builtin.specs.Tables.{lm}

@@ -9,7 +9,7 @@ use native.Mathlib.Omega.{arith}
 use lib.IntN.{ℤ}
 use lib.ListN.{length}
 use Rattle.item.specs.Code.{Code, allows, valueBits}
-use Rattle.encoding.specs.Items.{Items, stop, ask, _then_, times, Allows, encodingBits}
+use Rattle.items.specs.Items.{Items, stop, ask, _then_, times, Allows, encodingBits}
 use Rattle.lm.specs.Clause5.{inOrder, Each}
 
 -- items p are the layout of an A: which are well-formed, their values and their bits

@@ -11,10 +11,10 @@ use lib.ListN.{length, getD, drop, length-append}
 use lib.Seq.{drop-at, getD-drop}
 use Rattle.bits.specs.Bits.{bitsOf, unpack}
 use Rattle.bits.proofs.Bits.{length-bitsOf, length-unpack, length-pack, unpack-pack, unpack-injective, unpack-drop, pack-octets}
-use Rattle.encoding.specs.Items.{Items, Allows, encodingBits}
+use Rattle.items.specs.Items.{Items, Allows, encodingBits}
 use Rattle.encoding.specs.Rows.{items}
 use Rattle.builtin.specs.Tables.{lm}
-use Rattle.encoding.specs.Encoding.{size, padding, padded}
+use Rattle.items.specs.Encoding.{size, padding, padded}
 use Rattle.lm.specs.Clause5.{inOrder, lengthBits, addressBits, Element, elementBits, Extensions, absent, present, extensionsBits, OriginalHeader, originalNull, originalNHop, originalHeaderBits, NHeader, nullNetworking, internalForwarding, nHopForwarding, nHeaderBits, THeader, dissemination, session, tHeaderBits, NullNetworking, nullNetworkingBits, NHopForwarding, nHopForwardingBits, Octets, Lm, layoutBits}
 use Rattle.lm.proofs.Spelling.{Spells}
 use Rattle.lm.proofs.Rows.{network, transport}

@@ -13,8 +13,8 @@ use Rattle.answer.specs.Numbers.{messageEnds, wrongVersion, wrongSubtype, wrong
 use Rattle.answer.specs.declared.Answer.{Answer}
 use Rattle.item.specs.Code.{ofNatural}
 use Rattle.encoding.specs.Rows.{asks}
-use Rattle.encoding.specs.Reading.{ReadOutcome, refuse, decode, readAnswer}
-use Rattle.encoding.specs.Writing.{WriteOutcome, unwritten, encode, writeAnswer}
+use Rattle.items.specs.Reading.{ReadOutcome, refuse, decode, readAnswer}
+use Rattle.items.specs.Writing.{WriteOutcome, unwritten, encode, writeAnswer}
 use Rattle.builtin.specs.Tables.{lm}
 
 -- ── reading ──

@@ -4,7 +4,8 @@ use Prim.Native.Nat.{ℕ}
 use mathlib.Core.Path.{_≡_}
 use mathlib.Core.List.{List, [], _∷_, map}
 use lib.IntN.{pos, negsuc}
-use Rattle.encoding.specs.Reading.{ReadOutcome, accept, refuse, readOutcome}
+use Rattle.items.specs.Reading.{ReadOutcome, accept, refuse}
+use Rattle.encoding.specs.Reading.{readOutcome}
 use Rattle.lm.specs.ByName.{readLmOutcome}
 
 -- what is read: an LM by name, or a message under a lent table

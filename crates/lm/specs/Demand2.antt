@@ -6,11 +6,11 @@ use mathlib.Core.Logic.{_↔_}
 use mathlib.Core.List.{List}
 use lib.IntN.{ℤ}
 use lib.ListN.{length}
-use Rattle.encoding.specs.Items.{Allows, encodingBits}
+use Rattle.items.specs.Items.{Allows, encodingBits}
 use Rattle.encoding.specs.Rows.{asks}
-use Rattle.encoding.specs.Encoding.{padded}
-use Rattle.encoding.specs.Reading.{accept}
-use Rattle.encoding.specs.Writing.{written}
+use Rattle.items.specs.Encoding.{padded}
+use Rattle.items.specs.Reading.{accept}
+use Rattle.items.specs.Writing.{written}
 use Rattle.encoding.specs.Demand3.{Message}
 use Rattle.builtin.specs.Tables.{lm}
 use Rattle.lm.specs.ByName.{readLmOutcome, writeLmOutcome}

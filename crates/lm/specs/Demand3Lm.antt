@@ -11,7 +11,7 @@ use Rattle.answer.specs.Numbers.{accepted}
 use Rattle.answer.specs.declared.Counts.{Counts}
 use Rattle.answer.specs.declared.Answer.the-variants.{Accepted}
 use Rattle.table.specs.Verdict.{verdict, checked}
-use Rattle.encoding.specs.Items.{encodingBits}
+use Rattle.items.specs.Items.{encodingBits}
 use Rattle.encoding.specs.Rows.{asks}
 use Rattle.encoding.specs.Calls.{filled, valuesAfter, outputAfter}
 use Rattle.encoding.specs.Demand3.{Message, Stands}

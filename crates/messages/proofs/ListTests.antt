@@ -20,7 +20,7 @@ use Rattle.answer.specs.declared.Counts.{Counts}
 use Rattle.answer.specs.declared.Refusal.{Refusal}
 use Rattle.item.specs.Code.{ofNatural}
 use Rattle.encoding.specs.Rows.{asks}
-use Rattle.encoding.specs.Writing.{WriteOutcome, written, unwritten, encode, writeAnswer, writeOctets}
+use Rattle.items.specs.Writing.{WriteOutcome, written, unwritten, encode, writeAnswer, writeOctets}
 use Rattle.builtin.specs.Tables.{lm}
 use Rattle.lm.specs.ByName.{writeIf, writeLmOutcome}
 use Rattle.messages.specs.Tested.{answerIf, lmListTested}

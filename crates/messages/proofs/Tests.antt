@@ -17,8 +17,8 @@ use Rattle.answer.specs.declared.Answer.the-variants.{Accepted, Refused}
 use Rattle.answer.specs.declared.Counts.{Counts}
 use Rattle.answer.specs.declared.Refusal.{Refusal}
 use Rattle.encoding.specs.Rows.{asks}
-use Rattle.encoding.specs.Reading.{ReadOutcome, accept, refuse, decode, readAnswer, readValues}
-use Rattle.encoding.proofs.Messages.{decode-fits}
+use Rattle.items.specs.Reading.{ReadOutcome, accept, refuse, decode, readAnswer, readValues}
+use Rattle.items.proofs.Messages.{decode-fits}
 use Rattle.builtin.specs.Tables.{lm}
 use Rattle.lm.specs.ByName.{lmVersion, lmSubtype, readIf, readLmOutcome}
 use Rattle.messages.specs.Tested.{answerIf, lmTested}

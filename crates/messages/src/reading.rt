@@ -7,7 +7,7 @@ use bits::OctetSize;
 ghost use mathlib.Core.Path.{_≡_};
 ghost use lib.ListN.{set};
 ghost use Rattle.values.specs.Values.{setValue};
-ghost use Rattle.encoding.specs.Reading.{readAnswer};
+ghost use Rattle.items.specs.Reading.{readAnswer};
 ghost use Rattle.codec.specs.Kept.{KeptBy};
 ghost use Rattle.lm.specs.ByName.{readLmOutcome};
 ghost use Rattle.messages.specs.Tested.{lmTested};

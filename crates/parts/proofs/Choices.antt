@@ -15,7 +15,7 @@ use Rattle.row.specs.Offsets.{earlier}
 use Rattle.rules.specs.Rules.{Obeys, Starts, Earlier}
 use Rattle.row.proofs.Offsets.{earlier-is}
 use Rattle.table.proofs.Obeyed.{choice-row}
-use Rattle.encoding.specs.Items.{stop}
+use Rattle.items.specs.Items.{stop}
 use Rattle.encoding.specs.Rows.{items}
 
 length-map : (f : ℕ → Bool) (xs : List ℕ) → length (map f xs) ≡ length xs

@@ -1,3 +1,2 @@
-pub mod Runs
 pub mod Choices
 pub mod Records

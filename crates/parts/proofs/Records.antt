@@ -20,7 +20,7 @@ use Rattle.bits.proofs.Bits.{length-bitsOf, bitsOf-append}
 use Rattle.item.specs.Code.{number, natural}
 use Rattle.rules.specs.Rules.{Obeys, Starts}
 use Rattle.table.proofs.Obeyed.{record-row}
-use Rattle.encoding.specs.Items.{Items, stop, ask, _then_}
+use Rattle.items.specs.Items.{Items, stop, ask, _then_}
 use Rattle.encoding.specs.Rows.{presence, fields, items}
 use Rattle.encoding.proofs.RowItems.{items-record}
 use Rattle.parts.specs.Parts.{fieldsOf, markedFields, fieldIf}

@@ -4,7 +4,7 @@ use mathlib.Core.Bool.{Bool, true, false}
 use mathlib.Core.List.{List}
 use Rattle.octets.specs.Numbers.{u16, u16s}
 use Rattle.bits.specs.Bits.{bitsOf}
-use Rattle.encoding.specs.Items.{Items, stop}
+use Rattle.items.specs.Items.{Items, stop}
 use Rattle.encoding.specs.Rows.{fields, items}
 
 -- the fields of the record at o, by their marks

@@ -17,7 +17,7 @@ use Rattle.item.proofs.CodeLaws.{decodeItem-sound}
 use Rattle.item.specs.declared.Item.{Item}
 use Rattle.item.specs.declared.Item.the-variants.{Value, Bad}
 use Rattle.values.specs.Values.{setValue}
-use Rattle.encoding.specs.Items.{Items, stop, ask, one}
+use Rattle.items.specs.Items.{Items, stop, ask, one}
 use Rattle.encoding.specs.Rows.{presence}
 use Rattle.parts.proofs.Records.{presence-always, presence-optional}
 use Rattle.reader.specs.declared.Cursor.{Cursor}

@@ -19,10 +19,10 @@ use Rattle.item.specs.declared.Item.{Item}
 use Rattle.item.specs.declared.Item.the-variants.{Value, Bad}
 use Rattle.values.specs.Values.{setValue, storeAll}
 use Rattle.values.proofs.Stores.{storeAll-append}
-use Rattle.parts.proofs.Runs.{then-stop}
-use Rattle.encoding.specs.Items.{Items, stop, ask, _then_}
-use Rattle.encoding.specs.Walk.{Walk, walked, blocked, walk, after, next}
-use Rattle.encoding.proofs.Walks.{walk-stop, walk-bad, walk-full, walk-got, walk-then}
+use Rattle.items.proofs.Runs.{then-stop}
+use Rattle.items.specs.Items.{Items, stop, ask, _then_}
+use Rattle.items.specs.Walk.{Walk, walked, blocked, walk, after, next}
+use Rattle.items.proofs.Walks.{walk-stop, walk-bad, walk-full, walk-got, walk-then}
 use Rattle.answer.specs.declared.Refusal.{Refusal}
 use Rattle.reader.specs.declared.Cursor.{Cursor}
 use Rattle.reader.specs.declared.Step.{Step}

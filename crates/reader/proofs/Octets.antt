@@ -18,12 +18,12 @@ use Rattle.item.specs.declared.Item.the-variants.{Value}
 use Rattle.read_item.proofs.Outcomes.{front-inside, number-is}
 use Rattle.values.specs.Values.{setValue, storeAll}
 use Rattle.runs.specs.Runs.{octetValues}
-use Rattle.encoding.specs.Items.{Items, one, times}
+use Rattle.items.specs.Items.{Items, one, times}
 use Rattle.reader.specs.Reads.{cursorAt, State, stateAt, Continues}
 use Rattle.reader.specs.declared.Step.the-variants.{Past}
 use Rattle.reader.proofs.Flow.{continues-trans, continues-same}
 use Rattle.reader.proofs.Beginnings.{keeping, first-kept}
-use Rattle.parts.proofs.Runs.{run-first}
+use Rattle.items.proofs.Runs.{run-first}
 
 abbrev pub octets : ℕ → Items
 octets n = times n (one (number (pos 0) 255))

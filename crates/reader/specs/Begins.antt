@@ -7,7 +7,7 @@ use lib.Dec.{eqb}
 use lib.IntN.{ℤ}
 use Rattle.octets.specs.Numbers.{u16}
 use Rattle.rules.specs.Rules.{Earlier}
-use Rattle.encoding.specs.Items.{Items, stop, times}
+use Rattle.items.specs.Items.{Items, stop, times}
 use Rattle.encoding.specs.Rows.{presence, items}
 use Rattle.parts.specs.Parts.{markedFields}
 use Rattle.reader.specs.declared.Step.{Step}

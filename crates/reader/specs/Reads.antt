@@ -14,8 +14,8 @@ use Rattle.item.specs.Code.{natural}
 use Rattle.item.specs.declared.Item.{Item}
 use Rattle.item.specs.declared.Item.the-variants.{Value, Bad}
 use Rattle.values.specs.Values.{setValue, storeAll}
-use Rattle.encoding.specs.Items.{Items}
-use Rattle.encoding.specs.Walk.{Walk, walked, blocked, walk}
+use Rattle.items.specs.Items.{Items}
+use Rattle.items.specs.Walk.{Walk, walked, blocked, walk}
 use Rattle.reader.specs.declared.Cursor.{Cursor}
 use Rattle.reader.specs.declared.Step.{Step}
 use Rattle.reader.specs.declared.Step.the-variants.{Past, Refused}

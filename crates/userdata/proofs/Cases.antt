@@ -6,7 +6,7 @@ use Rattle.bits.specs.Bits.{numberOf, bitsOf, width, unpack}
 use Rattle.row.specs.Offsets.{earlier, upTo, byOffset}
 use Rattle.row.specs.Rows.{rowOf, rowAt, rowLength}
 use Rattle.table.specs.Root.{rootFrom, root}
-use Rattle.encoding.specs.Items.{one, times}
+use Rattle.items.specs.Items.{one, times}
 use Rattle.encoding.specs.Rows.{presence, fields, rowItems, items, asks}
 use Rattle.builtin.specs.Tables.{lm}
 use Rattle.lm.specs.ByName.{lmVersion, lmSubtype, readLmOutcome}

@@ -11,10 +11,10 @@ use Rattle.bits.specs.Bits.{unpack}
 use Rattle.answer.specs.declared.Answer.the-variants.{Accepted, Refused}
 use Rattle.answer.specs.declared.Counts.{Counts}
 use Rattle.answer.specs.declared.Refusal.{Refusal}
-use Rattle.encoding.specs.Items.{_then_}
+use Rattle.items.specs.Items.{_then_}
 use Rattle.encoding.specs.Rows.{items}
-use Rattle.encoding.specs.Reading.{ReadOutcome, accept, refuse, readAnswer}
-use Rattle.encoding.specs.Walk.{Walk, walked, blocked, walk}
+use Rattle.items.specs.Reading.{ReadOutcome, accept, refuse, readAnswer}
+use Rattle.items.specs.Walk.{Walk, walked, blocked, walk}
 use Rattle.reader.specs.declared.Cursor.{Cursor}
 use Rattle.reader.specs.declared.Step.{Step}
 use Rattle.reader.specs.declared.Step.the-variants.{Past, Refused as StepRefused}

@@ -7,7 +7,7 @@ use native.Mathlib.Omega.{arith}
 use lib.ListN.{length, take, length-append}
 use lib.Seq.{take-length}
 use Rattle.bits.proofs.Bits.{length-unpack}
-use Rattle.encoding.specs.Reading.{ReadOutcome, accept, refuse}
+use Rattle.items.specs.Reading.{ReadOutcome, accept, refuse}
 use Rattle.encoding.specs.Demand3.{Message}
 use Rattle.lm.specs.ByName.{readLmOutcome}
 use Rattle.lm.specs.Clause5.{Lm, layoutBits, valuesOf}

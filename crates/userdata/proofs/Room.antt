@@ -18,10 +18,10 @@ use Rattle.item.proofs.CodeLaws.{length-leading, decodeItem-sound}
 use Rattle.row.specs.Offsets.{earlier}
 use Rattle.row.specs.Rows.{Row, Number, Variable, FixedRun, CountedRun, Record, Choice, Octets, Unknown, rowOf, rowAt}
 use Rattle.rules.specs.Rules.{All}
-use Rattle.encoding.specs.Items.{Items, stop, ask, Allows, encodingBits}
+use Rattle.items.specs.Items.{Items, stop, ask, Allows, encodingBits}
 use Rattle.encoding.specs.Rows.{rowItems, items, asks}
-use Rattle.encoding.specs.Encoding.{size}
-use Rattle.encoding.specs.Reading.{Reading, done, stuck, prepend, readOne, readItems, ReadOutcome, accept, refuse, allZero, closeRead, decode}
+use Rattle.items.specs.Encoding.{size}
+use Rattle.items.specs.Reading.{Reading, done, stuck, prepend, readOne, readItems, ReadOutcome, accept, refuse, allZero, closeRead, decode}
 use Rattle.encoding.proofs.RowItems.{items-row}
 use Rattle.encoding.proofs.Every.{Every, Codes, Below, every-row}
 use Rattle.builtin.specs.Tables.{lm}

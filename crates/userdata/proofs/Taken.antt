@@ -17,12 +17,12 @@ use Rattle.item.specs.Code.{natural}
 use Rattle.row.specs.Rows.{rowOf, rowAt}
 use Rattle.rules.specs.Rules.{All, Starts, Earlier, references}
 use Rattle.table.proofs.LastRow.{root-is}
-use Rattle.encoding.specs.Items.{Items, stop, ask, _then_, Allows, encodingBits}
+use Rattle.items.specs.Items.{Items, stop, ask, _then_, Allows, encodingBits}
 use Rattle.encoding.specs.Rows.{items, asks, presence, fields}
-use Rattle.encoding.specs.Encoding.{size}
-use Rattle.encoding.specs.Reading.{Reading, done, stuck, prepend, readItems, ReadOutcome, accept, refuse, allZero, closeRead, decode}
-use Rattle.encoding.specs.Walk.{forget, walk}
-use Rattle.encoding.proofs.ReadItems.{bind, read-then, read-sound}
+use Rattle.items.specs.Encoding.{size}
+use Rattle.items.specs.Reading.{Reading, done, stuck, prepend, readItems, ReadOutcome, accept, refuse, allZero, closeRead, decode}
+use Rattle.items.specs.Walk.{forget, walk}
+use Rattle.items.proofs.ReadItems.{bind, read-then, read-sound}
 use Rattle.encoding.proofs.RowItems.{items-record}
 use Rattle.builtin.specs.Tables.{lm}
 use Rattle.builtin.proofs.Tables.{lm-obeys, lm-root}

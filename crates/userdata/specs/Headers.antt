@@ -6,7 +6,7 @@ use lib.ListN.{length}
 use Rattle.bits.specs.Bits.{unpack}
 use Rattle.answer.specs.declared.Answer.{Answer}
 use Rattle.answer.specs.declared.Answer.the-variants.{Accepted, Refused}
-use Rattle.encoding.specs.Walk.{Walk, walked, blocked, walk}
+use Rattle.items.specs.Walk.{Walk, walked, blocked, walk}
 use Rattle.userdata.specs.declared.Found.{Found}
 use Rattle.userdata.specs.declared.Found.the-variants.{Refused as FoundRefused}
 use Rattle.userdata.specs.UserData.{enough, headers, foundAt}

@@ -6,7 +6,7 @@ use mathlib.Core.Logic.{_↔_, _≢_}
 use mathlib.Core.List.{List}
 use lib.ListN.{length}
 use Rattle.answer.specs.Numbers.{noRoom}
-use Rattle.encoding.specs.Reading.{refuse}
+use Rattle.items.specs.Reading.{refuse}
 use Rattle.encoding.specs.Demand3.{Message}
 use Rattle.lm.specs.ByName.{readLmOutcome}
 use Rattle.lm.specs.Clause5.{Lm}

@@ -6,9 +6,9 @@ use mathlib.Core.List.{List, [], _∷_}
 use lib.IntN.{ℤ, pos}
 use lib.ListN.{length, getD, take, drop}
 use Rattle.item.specs.Code.{natural}
-use Rattle.encoding.specs.Items.{Items, stop, ask, _then_}
+use Rattle.items.specs.Items.{Items, stop, ask, _then_}
 use Rattle.encoding.specs.Rows.{items}
-use Rattle.encoding.specs.Reading.{ReadOutcome, accept, refuse}
+use Rattle.items.specs.Reading.{ReadOutcome, accept, refuse}
 use Rattle.builtin.specs.Tables.{lm}
 use Rattle.lm.specs.ByName.{readLmOutcome}
 use Rattle.userdata.specs.declared.Found.{Found}

@@ -14,7 +14,7 @@ use Rattle.item.specs.Code.{Code, number, natural, allows}
 use Rattle.item.specs.Answers.{putAt, bitsAfter}
 use Rattle.item.specs.declared.Put.{Put}
 use Rattle.item.specs.declared.Put.the-variants.{Unfit}
-use Rattle.encoding.specs.Items.{Items, stop, ask, one}
+use Rattle.items.specs.Items.{Items, stop, ask, one}
 use Rattle.encoding.specs.Rows.{presence}
 use Rattle.parts.proofs.Records.{presence-always, presence-optional}
 use Rattle.writer.specs.declared.Cursor.{Cursor}

@@ -18,10 +18,10 @@ use Rattle.answer.specs.declared.Refusal.{Refusal}
 use Rattle.item.specs.Code.{Code, allows, valueBits}
 use Rattle.item.specs.Answers.{putAt, bitsAfter}
 use Rattle.item.specs.declared.Put.{Put}
-use Rattle.encoding.specs.Items.{Items, stop, ask, _then_}
-use Rattle.encoding.specs.Spell.{Spell, spelled, barred, spell, following, next}
-use Rattle.encoding.proofs.Spells.{spell-stop, spell-missing, spell-wrong, spell-full, spell-put, spell-then, spell-within, Within}
-use Rattle.parts.proofs.Runs.{then-stop}
+use Rattle.items.specs.Items.{Items, stop, ask, _then_}
+use Rattle.items.specs.Spell.{Spell, spelled, barred, spell, following, next}
+use Rattle.items.proofs.Spells.{spell-stop, spell-missing, spell-wrong, spell-full, spell-put, spell-then, spell-within, Within}
+use Rattle.items.proofs.Runs.{then-stop}
 use Rattle.writer.specs.declared.Cursor.{Cursor}
 use Rattle.writer.specs.declared.Given.the-variants.{Value, Missing}
 use Rattle.writer.specs.declared.Step.{Step}

@@ -14,10 +14,10 @@ use Rattle.bits.proofs.Bits.{length-bitsOf}
 use Rattle.item.specs.Code.{Code, number, allows, valueBits}
 use Rattle.runs.specs.Runs.{isOctet, octetBits, Written}
 use Rattle.runs.proofs.Putting.{length-octetBits}
-use Rattle.encoding.specs.Items.{Items, ask, _then_, one, times}
-use Rattle.encoding.specs.Spell.{spelled, spell}
-use Rattle.encoding.proofs.Spells.{spell-stop, spell-put}
-use Rattle.parts.proofs.Runs.{run-first}
+use Rattle.items.specs.Items.{Items, ask, _then_, one, times}
+use Rattle.items.specs.Spell.{spelled, spell}
+use Rattle.items.proofs.Spells.{spell-stop, spell-put}
+use Rattle.items.proofs.Runs.{run-first}
 use Rattle.writer.specs.declared.Step.the-variants.{Past}
 use Rattle.writer.specs.Writes.{cursorAt, State, stateAt, Writes, Continues}
 use Rattle.writer.proofs.Flow.{continues-trans, continues-same, continues-part}

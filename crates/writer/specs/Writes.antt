@@ -12,8 +12,8 @@ use Rattle.answer.specs.declared.Refusal.{Refusal}
 use Rattle.item.specs.declared.Put.{Put}
 use Rattle.item.specs.declared.Put.the-variants.{Next, Unfit}
 use Rattle.values.specs.Values.{valuesIn}
-use Rattle.encoding.specs.Items.{Items}
-use Rattle.encoding.specs.Spell.{Spell, spelled, barred, spell}
+use Rattle.items.specs.Items.{Items}
+use Rattle.items.specs.Spell.{Spell, spelled, barred, spell}
 use Rattle.writer.specs.declared.Cursor.{Cursor}
 use Rattle.writer.specs.declared.Given.{Given}
 use Rattle.writer.specs.declared.Given.the-variants.{Value, Missing}

@@ -16,7 +16,7 @@ ghost use lib.ListN.{length};
 ghost use Rattle.octets.specs.Numbers.{u16, u32, signed};
 ghost use Rattle.item.specs.Code.{Code};
 ghost use Rattle.rules.specs.Rules.{Obeys, Starts};
-ghost use Rattle.encoding.specs.Items.{one, times};
+ghost use Rattle.items.specs.Items.{one, times};
 ghost use Rattle.encoding.specs.Rows.{items};
 ghost use Rattle.writer.specs.Writes.{Writes, listIn, stateAt, Gives, missingAt, movedStep};
 ghost use Rattle.writer.specs.Begins.{Begins, Marks, wholeOf};

@@ -7,7 +7,7 @@ use denote.Ref.{now}
 use lib.ListN.{length}
 use Rattle.builtin.specs.Tables.{lm, sam, srm}
 use Rattle.builtin.proofs.Tables.{lm-obeys, lm-root, sam-obeys, sam-root, srm-obeys, srm-root}
-use Rattle.encoding.specs.Reading.{readValues}
+use Rattle.items.specs.Reading.{readValues}
 use Rattle.codec.specs.Kept.{keptCount}
 use Rattle.codec.proofs.Settled.{count-is, settled-values}
 use Rattle.lm.specs.ByName.{readLmOutcome}

@@ -6,7 +6,7 @@ use native.Mathlib.Omega.{arith}
 use denote.Ref.{now}
 use lib.ListN.{length}
 use Rattle.bits.proofs.Access.{fetched-Short, fetched-Bits}
-use Rattle.encoding.specs.Encoding.{size}
+use Rattle.items.specs.Encoding.{size}
 use Rattle.codec.proofs.Roots.{other-size, not-zero, all-zero}
 use borrow.Author.Needs.{needs}
 use Rattle.codec.proofs.reading.close.Statement.{statement}

@@ -9,7 +9,7 @@ use borrow.Author.Tests.{lt-ltb, le-ltb, eq-eqb, ne-eqb}
 use Rattle.bits.specs.Bits.{bitsOf, unpack}
 use Rattle.bits.specs.Access.{overwritten}
 use Rattle.answer.specs.Numbers.{accepted}
-use Rattle.encoding.specs.Encoding.{size}
+use Rattle.items.specs.Encoding.{size}
 use Rattle.codec.proofs.Ends.{none-below}
 use borrow.Author.Needs.{needs}
 use Rattle.codec.proofs.writing.finish.Statement.{statement}

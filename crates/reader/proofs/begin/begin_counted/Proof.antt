@@ -8,7 +8,7 @@ use denote.Ref.{now}
 use Rattle.octets.specs.Numbers.{u16}
 use Rattle.item.specs.Code.{lengthWithin, natural}
 use Rattle.table.proofs.Obeyed.{counted-row}
-use Rattle.encoding.specs.Items.{ask, times}
+use Rattle.items.specs.Items.{ask, times}
 use Rattle.encoding.specs.Rows.{items}
 use Rattle.encoding.proofs.RowItems.{items-counted}
 use Rattle.reader.specs.Reads.{stateAt}

@@ -8,8 +8,8 @@ use denote.Ref.{now}
 use lib.IntN.{pos}
 use lib.ListN.{length}
 use Rattle.item.specs.Code.{Code, number}
-use Rattle.encoding.specs.Items.{ask, one, times}
-use Rattle.parts.proofs.Runs.{times-none, run-first}
+use Rattle.items.specs.Items.{ask, one, times}
+use Rattle.items.proofs.Runs.{times-none, run-first}
 use Rattle.reader.specs.Reads.{stateAt, Continues}
 use Rattle.reader.proofs.Flow.{continues-trans, continues-same, continues-end}
 use Rattle.reader.proofs.Beginnings.{Keeping, keeping, first-refused, first-kept}

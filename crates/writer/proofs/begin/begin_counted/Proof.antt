@@ -10,7 +10,7 @@ use mir.Val.{toZ, ofZ}
 use Rattle.octets.specs.Numbers.{u16}
 use Rattle.item.specs.Code.{lengthWithin, natural}
 use Rattle.table.proofs.Obeyed.{counted-row}
-use Rattle.encoding.specs.Items.{ask, times}
+use Rattle.items.specs.Items.{ask, times}
 use Rattle.encoding.specs.Rows.{items}
 use Rattle.encoding.proofs.RowItems.{items-counted}
 use Rattle.item.proofs.Naturals.{held}

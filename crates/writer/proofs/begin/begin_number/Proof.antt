@@ -9,7 +9,7 @@ use mir.Syntax.{w64}
 use mir.Val.{toZ, ofZ}
 use Rattle.octets.specs.Numbers.{u32, signed}
 use Rattle.item.specs.Code.{number}
-use Rattle.encoding.specs.Items.{stop, one}
+use Rattle.items.specs.Items.{stop, one}
 use Rattle.item.proofs.Naturals.{held}
 use Rattle.writer.proofs.Beginnings.{putting, first-missing, begins-one}
 use Rattle.writer.proofs.begin.begin_number.Statement.{statement}

@@ -4,7 +4,7 @@ use mathlib.Core.Path.{refl}
 use borrow.Author.Needs.{needs}
 use denote.Ref.{now}
 use Rattle.item.specs.Code.{variable}
-use Rattle.encoding.specs.Items.{stop, one}
+use Rattle.items.specs.Items.{stop, one}
 use Rattle.item.proofs.Naturals.{held}
 use Rattle.writer.proofs.Beginnings.{putting, first-missing, begins-one}
 use Rattle.writer.proofs.begin.begin_variable.Statement.{statement}

@@ -8,9 +8,9 @@ use denote.Ref.{now}
 use lib.IntN.{pos}
 use lib.ListN.{length}
 use Rattle.item.specs.Code.{Code, number}
-use Rattle.encoding.specs.Items.{one, times}
+use Rattle.items.specs.Items.{one, times}
 use Rattle.item.proofs.Naturals.{held}
-use Rattle.parts.proofs.Runs.{times-none, run-first}
+use Rattle.items.proofs.Runs.{times-none, run-first}
 use Rattle.writer.specs.Writes.{listIn, stateAt, Continues}
 use Rattle.writer.proofs.Flow.{continues-trans, continues-same, continues-end}
 use Rattle.writer.proofs.Beginnings.{Putting, putting, first-missing, first-refused, first-put}

@@ -1,24 +1,22 @@
 -- Writing: an allowed list is written as its encoding wherever that fits; what is written is the encoding of an allowed list;
 -- and what was read is written back.
 -- Assumes nothing.
-use Prim.Native.Nat.{ℕ, zero, suc, _+_, _-_, _*_, _^_, _/_, _≤_, _<_, max, min}
-use mathlib.Core.Bool.{Bool, true, false, cond, _&&_, false≢true, and-eq-true-iff}
-use mathlib.Core.Path.{_≡_, refl, sym, ap, ap₂, _∙_}
-use mathlib.Core.Logic.{_↔_}
-use mathlib.Core.List.{List, [], _∷_, _++_, append-assoc, append-nil}
+use Prim.Native.Nat.{ℕ, zero, suc, _+_, _-_, _*_, _≤_, _<_, min}
+use mathlib.Core.Bool.{Bool, true, false}
+use mathlib.Core.Path.{_≡_, refl, sym, ap, _∙_}
+use mathlib.Core.List.{List, [], _∷_, _++_, append-nil}
 use native.Mathlib.Omega.{arith}
-use native.Mathlib.Nat.{add-zero, zero-add, add-assoc, sub-zero, suc-sub-suc}
-use lib.Dec.{leb, ltb, eqb}
-use lib.IntN.{ℤ, pos, negsuc}
+use lib.Dec.{leb}
+use lib.IntN.{ℤ}
 use lib.ListN.{length, getD, length-append}
-use borrow.Author.Tests.{leb-true, leb-false, le-leb}
+use borrow.Author.Tests.{leb-true, le-leb}
 use Rattle.bits.proofs.Bits.{length-pack}
-use Rattle.item.specs.Code.{Code, allows, valueBits}
-use Rattle.encoding.specs.Items.{Items, stop, ask, Allows, encodingBits}
-use Rattle.encoding.specs.Encoding.{size, padded, encoding}
-use Rattle.encoding.specs.Reading.{ReadOutcome, accept, decode}
-use Rattle.encoding.specs.Writing.{Writing, spelt, halted, unless, behind, writeItems, WriteOutcome, written, unwritten, closeWrite, encode}
-use Rattle.encoding.proofs.Messages.{decode-sound}
+use Rattle.item.specs.Code.{allows, valueBits}
+use Rattle.items.specs.Items.{Items, stop, ask, Allows, encodingBits}
+use Rattle.items.specs.Encoding.{size, padded, encoding}
+use Rattle.items.specs.Reading.{accept, decode}
+use Rattle.items.specs.Writing.{Writing, spelt, halted, unless, behind, writeItems, written, closeWrite, encode}
+use Rattle.items.proofs.Messages.{decode-sound}
 
 pub write-complete : (p : Items) (vs ws : List ℤ) (room i : ℕ) → Allows p vs → length (encodingBits p vs) ≤ room → writeItems p (vs ++ ws) room i ≡ spelt (encodingBits p vs) ws
 write-complete stop [] ws room i h l = refl

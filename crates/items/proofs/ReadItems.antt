@@ -1,20 +1,18 @@
 -- Items in order: what was written is read back, what is read was written by exactly one allowed list, and reading one part
 -- after another.
 -- Assumes nothing.
-use Prim.Native.Nat.{ℕ, zero, suc, _+_, _-_, _*_, _^_, _/_, _≤_, _<_, max, min}
-use mathlib.Core.Bool.{Bool, true, false, cond, _&&_, false≢true, and-eq-true-iff}
-use mathlib.Core.Path.{_≡_, refl, sym, ap, ap₂, _∙_}
-use mathlib.Core.Logic.{_↔_}
-use mathlib.Core.List.{List, [], _∷_, _++_, append-assoc, append-nil}
+use Prim.Native.Nat.{ℕ, zero, suc, _+_, _-_, _≤_}
+use mathlib.Core.Bool.{Bool}
+use mathlib.Core.Path.{_≡_, refl, sym, ap, _∙_}
+use mathlib.Core.List.{List, [], _∷_, _++_, append-assoc}
 use native.Mathlib.Omega.{arith}
-use native.Mathlib.Nat.{add-zero, zero-add, add-assoc, sub-zero, suc-sub-suc}
-use lib.Dec.{leb, ltb, eqb}
-use lib.IntN.{ℤ, pos, negsuc}
+use native.Mathlib.Nat.{add-zero, add-assoc, sub-zero, suc-sub-suc}
+use lib.IntN.{ℤ}
 use lib.ListN.{length, length-append}
 use Rattle.item.specs.Code.{Code, Got, got, bad, valueBits, decodeItem}
 use Rattle.item.proofs.CodeLaws.{decodeItem-complete, decodeItem-sound}
-use Rattle.encoding.specs.Items.{Items, stop, ask, _then_, Allows, encodingBits}
-use Rattle.encoding.specs.Reading.{Reading, done, stuck, prepend, readOne, readItems}
+use Rattle.items.specs.Items.{Items, stop, ask, _then_, Allows, encodingBits}
+use Rattle.items.specs.Reading.{Reading, done, stuck, prepend, readOne, readItems}
 
 pub read-complete : (p : Items) (vs : List ℤ) (r : List Bool) (room at : ℕ) → Allows p vs → length vs ≤ room
     → readItems p (encodingBits p vs ++ r) room at ≡ done vs (at + length (encodingBits p vs)) r

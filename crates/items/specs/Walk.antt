@@ -5,8 +5,8 @@ use mathlib.Core.Bool.{Bool}
 use mathlib.Core.List.{List, _++_}
 use lib.IntN.{ℤ}
 use lib.ListN.{length, drop}
-use Rattle.encoding.specs.Items.{Items}
-use Rattle.encoding.specs.Reading.{Reading, done, stuck, readItems}
+use Rattle.items.specs.Items.{Items}
+use Rattle.items.specs.Reading.{Reading, done, stuck, readItems}
 
 -- the values and the place after them; or a refusal's number and place
 pub data Walk : Type 0 where

@@ -6,7 +6,7 @@ use mathlib.Core.List.{List, _++_}
 use lib.IntN.{ℤ}
 use lib.ListN.{length, replicate}
 use Rattle.bits.specs.Bits.{pack}
-use Rattle.encoding.specs.Items.{Items, encodingBits}
+use Rattle.items.specs.Items.{Items, encodingBits}
 
 -- how many octets hold n bits, and one where there are none
 abbrev pub size : ℕ → ℕ

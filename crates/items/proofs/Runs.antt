@@ -3,7 +3,7 @@
 use Prim.Native.Nat.{ℕ, suc}
 use mathlib.Core.Path.{_≡_, refl, ap, fun-ext}
 use Rattle.item.specs.Code.{Code}
-use Rattle.encoding.specs.Items.{Items, stop, ask, _then_, one, times}
+use Rattle.items.specs.Items.{Items, stop, ask, _then_, one, times}
 
 pub then-stop : (p : Items) → p then stop ≡ p
 then-stop stop = refl

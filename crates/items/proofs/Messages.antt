@@ -1,22 +1,22 @@
 -- A message and the list that it stands for: reading accepts exactly the encodings of the allowed lists that fit, with the
 -- list and the bits that it takes; one list for each message, and one message for each list.
 -- Assumes nothing.
-use Prim.Native.Nat.{ℕ, zero, suc, _+_, _-_, _*_, _^_, _/_, _≤_, _<_, max, min}
+use Prim.Native.Nat.{ℕ, zero, suc, _+_, _-_, _*_, _≤_, _<_}
 use mathlib.Core.Bool.{Bool, true, false, cond, _&&_, false≢true, and-eq-true-iff}
 use mathlib.Core.Path.{_≡_, refl, sym, ap, ap₂, _∙_}
 use mathlib.Core.Logic.{_↔_}
-use mathlib.Core.List.{List, [], _∷_, _++_, append-assoc, append-nil}
+use mathlib.Core.List.{List, [], _∷_, _++_}
 use native.Mathlib.Omega.{arith}
-use native.Mathlib.Nat.{add-zero, zero-add, add-assoc, sub-zero, suc-sub-suc}
-use lib.Dec.{leb, ltb, eqb}
-use lib.IntN.{ℤ, pos, negsuc}
+use native.Mathlib.Nat.{zero-add}
+use lib.Dec.{eqb}
+use lib.IntN.{ℤ}
 use lib.ListN.{length, getD, replicate, length-append, length-replicate}
 use Rattle.bits.specs.Bits.{unpack, pack}
 use Rattle.bits.proofs.Bits.{length-unpack, length-pack, unpack-pack, pack-unpack}
-use Rattle.encoding.specs.Items.{Items, Allows, encodingBits}
-use Rattle.encoding.specs.Encoding.{size, padding, padded, encoding}
-use Rattle.encoding.specs.Reading.{Reading, done, stuck, readItems, ReadOutcome, accept, refuse, allZero, closeRead, decode}
-use Rattle.encoding.proofs.ReadItems.{read-complete, read-sound, ReadSound}
+use Rattle.items.specs.Items.{Items, Allows, encodingBits}
+use Rattle.items.specs.Encoding.{size, padding, encoding}
+use Rattle.items.specs.Reading.{Reading, done, stuck, readItems, accept, refuse, allZero, closeRead, decode}
+use Rattle.items.proofs.ReadItems.{read-complete, read-sound}
 use borrow.Author.Tests.{eqb-true, eq-eqb}
 
 allZero-inv : (b : List Bool) → allZero b ≡ true → b ≡ replicate (length b) false

@@ -13,10 +13,10 @@ use lib.ListN.{length, getD, drop, length-append}
 use lib.Seq.{drop-cons}
 use borrow.Author.Tests.{lt-ltb, le-ltb, ne-eqb}
 use Rattle.item.specs.Code.{Code, allows, valueBits}
-use Rattle.encoding.specs.Items.{Items, stop, ask, _then_}
-use Rattle.encoding.specs.Writing.{Writing, spelt, halted, behind, writeItems, closeWrite, encode}
-use Rattle.encoding.specs.Spell.{Spell, spelled, barred, counted, spell, following, next, closeSpell}
-use Rattle.encoding.proofs.Written.{write-sound}
+use Rattle.items.specs.Items.{Items, stop, ask, _then_}
+use Rattle.items.specs.Writing.{Writing, spelt, halted, behind, writeItems, closeWrite, encode}
+use Rattle.items.specs.Spell.{Spell, spelled, barred, counted, spell, following, next, closeSpell}
+use Rattle.items.proofs.Written.{write-sound}
 
 drop-past : {A : Type 0} (l : List A) (i : ℕ) → length l ≤ i → drop i l ≡ []
 drop-past [] zero h = refl

@@ -1,19 +1,18 @@
 -- Reading at a place: what each item does to a walk, and one walk after another.
 -- Assumes nothing.
-use Prim.Native.Nat.{ℕ, zero, suc, _+_, _-_, _*_, _≤_, _<_}
-use mathlib.Core.Bool.{Bool, true, false, cond, false≢true}
-use mathlib.Core.Path.{_≡_, refl, sym, ap, ap₂, _∙_, subst, fun-ext}
-use mathlib.Core.List.{List, [], _∷_, _++_, map, append-assoc}
-use native.Mathlib.Omega.{arith}
-use lib.IntN.{ℤ, pos}
-use lib.ListN.{length, drop, length-append, length-drop}
+use Prim.Native.Nat.{ℕ, suc, _+_, _-_}
+use mathlib.Core.Bool.{Bool}
+use mathlib.Core.Path.{_≡_, refl, sym, ap, _∙_}
+use mathlib.Core.List.{List, [], _∷_}
+use lib.IntN.{ℤ}
+use lib.ListN.{length, drop}
 use lib.Seq.{drop-at, drop-drop}
-use Rattle.item.specs.Code.{Code, Got, got, bad, valueBits, decodeItem}
+use Rattle.item.specs.Code.{Code, got, bad, valueBits, decodeItem}
 use Rattle.item.proofs.CodeLaws.{decodeItem-sound}
-use Rattle.encoding.specs.Items.{Items, stop, ask, _then_, encodingBits}
-use Rattle.encoding.specs.Reading.{Reading, done, stuck, prepend, readItems}
-use Rattle.encoding.specs.Walk.{Walk, walked, blocked, forget, walk, after, next}
-use Rattle.encoding.proofs.ReadItems.{bind, read-then, read-sound}
+use Rattle.items.specs.Items.{Items, stop, ask, _then_, encodingBits}
+use Rattle.items.specs.Reading.{Reading, done, stuck, prepend, readItems}
+use Rattle.items.specs.Walk.{walked, blocked, forget, walk, after, next}
+use Rattle.items.proofs.ReadItems.{bind, read-then, read-sound}
 
 forget-prepend : (us : List ℤ) (x : Reading) → forget (prepend us x) ≡ after us (forget x)
 forget-prepend us (done vs at b) = refl

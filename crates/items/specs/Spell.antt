@@ -7,9 +7,9 @@ use lib.Dec.{eqb, ltb}
 use lib.IntN.{ℤ}
 use lib.ListN.{length, drop}
 use Rattle.answer.specs.Numbers.{noRoom, wrongValue}
-use Rattle.encoding.specs.Items.{Items}
-use Rattle.encoding.specs.Encoding.{padded}
-use Rattle.encoding.specs.Writing.{Writing, spelt, halted, writeItems, WriteOutcome, written, unwritten}
+use Rattle.items.specs.Items.{Items}
+use Rattle.items.specs.Encoding.{padded}
+use Rattle.items.specs.Writing.{Writing, spelt, halted, writeItems, WriteOutcome, written, unwritten}
 
 -- the bits and the index after their values; or a refusal's number and its value's index
 pub data Spell : Type 0 where

@@ -1,0 +1,6 @@
+pub mod Runs
+pub mod ReadItems
+pub mod Messages
+pub mod Written
+pub mod Walks
+pub mod Spells
