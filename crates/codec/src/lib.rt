@@ -1,8 +1,5 @@
 // Reading and writing under a lent table: the check, the root, the padding, and zeros after the answer. No call here asks
-// anything of its arguments; the modules have parts, for tables that are known to pass.
-pub mod reading;
-pub mod writing;
-
+// anything of its arguments.
 use answer::Answer;
 ghost use mathlib.Core.Path.{_≡_};
 ghost use Prim.Native.Nat.{_/_};
@@ -10,8 +7,9 @@ ghost use lib.ListN.{length};
 ghost use Rattle.values.specs.Values.{valuesIn};
 ghost use Rattle.encoding.specs.Reading.{readOutcome};
 ghost use Rattle.encoding.specs.Writing.{writeOutcome};
-ghost use Rattle.encoding.specs.Calls.{readCall, valuesAfter, packedAfter, writeCall, outputAfter};
-ghost use Rattle.writer.specs.Writes.{listIn};
+ghost use Rattle.encoding.specs.Calls.{readCall, writeCall};
+ghost use Rattle.items.specs.Slices.{valuesAfter, packedAfter, outputAfter};
+ghost use Rattle.write_steps.specs.Writes.{listIn};
 
 // Reads all lent octets as one message under a lent table, into the value slice.
 pub fn read(table: &[u8], message: &[u8], values: &mut [i64]) -> Answer
@@ -38,7 +36,7 @@ pub fn read_packed(table: &[u8], message: &[u8], packed: &mut [u8]) -> Answer
     let mut none = [0i64; 0];
     let room = packed.len() / 8;
     let answer = reading::read_passed(table, root, message, &mut none, packed, room);
-    let kept = reading::kept_count(answer);
+    let kept = read_steps::kept_count(answer);
     values::clear_octets(packed, kept * 8);
     answer
 }

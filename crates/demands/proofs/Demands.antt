@@ -8,7 +8,7 @@ use Rattle.item.proofs.Ranges.{item-ranges}
 use Rattle.item.proofs.Widths.{item-widths}
 use Rattle.table.proofs.Depths.{depths}
 use Rattle.encoding.proofs.Demand2.{demand2}
-use Rattle.encoding.proofs.Filled.{filled-up}
+use Rattle.items.proofs.Filled.{filled-up}
 use Rattle.encoding.proofs.Demand3.{demand3}
 use Rattle.encoding.proofs.Demand3Octets.{demand3-octets}
 use Rattle.builtin.proofs.Tables.{built-in}

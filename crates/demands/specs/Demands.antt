@@ -18,7 +18,7 @@ use Rattle.item.specs.Ranges.{ItemRanges}
 use Rattle.item.specs.Widths.{ItemWidths}
 use Rattle.table.specs.Depths.{Depths}
 use Rattle.encoding.specs.Demand2.{Demand2}
-use Rattle.encoding.specs.Filled.{FilledUp}
+use Rattle.items.specs.Filled.{FilledUp}
 use Rattle.encoding.specs.Demand3.{AreOctets, Demand3}
 use Rattle.encoding.specs.Demand3Octets.{Demand3Octets}
 use Rattle.builtin.specs.Built.{BuiltIn}

@@ -23,7 +23,7 @@ use Rattle.items.specs.Reading.{ReadOutcome, accept, refuse, decode, readAnswer
 use Rattle.encoding.specs.Reading.{readOutcome}
 use Rattle.items.specs.Writing.{written, encode, writeAnswer}
 use Rattle.encoding.specs.Writing.{writeOutcome}
-use Rattle.encoding.specs.Calls.{valuesAfter, outputAfter}
+use Rattle.items.specs.Slices.{valuesAfter, outputAfter}
 use Rattle.encoding.specs.Demand3.{Message, Stands, Demand3}
 use Rattle.items.proofs.Messages.{one-list, one-message, decode-complete, decode-sound}
 use Rattle.items.proofs.Written.{encode-complete}

@@ -23,7 +23,8 @@ use Rattle.items.specs.Encoding.{encoding}
 use Rattle.items.specs.Reading.{ReadOutcome, accept, refuse, decode, readAnswer, readValues}
 use Rattle.encoding.specs.Reading.{onPassed, readOutcome}
 use Rattle.encoding.specs.Writing.{writeOutcome}
-use Rattle.encoding.specs.Calls.{filled, packedAfter, outputAfter, writeCall}
+use Rattle.items.specs.Slices.{filled, packedAfter, outputAfter}
+use Rattle.encoding.specs.Calls.{writeCall}
 use Rattle.encoding.specs.Demand3.{AreOctets, Message, Stands}
 use Rattle.encoding.specs.Demand3Octets.{WrittenAs, Demand3Octets}
 use Rattle.items.proofs.Messages.{decode-fits}

@@ -1,5 +1,4 @@
 pub mod RowItems
-pub mod Filled
 pub mod Every
 pub mod Fitting
 pub mod Demand3

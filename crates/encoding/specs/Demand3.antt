@@ -18,7 +18,8 @@ use Rattle.encoding.specs.Rows.{asks}
 use Rattle.items.specs.Encoding.{encoding}
 use Rattle.encoding.specs.Reading.{readOutcome}
 use Rattle.encoding.specs.Writing.{writeOutcome}
-use Rattle.encoding.specs.Calls.{filled, valuesAfter, outputAfter, readCall, writeCall}
+use Rattle.items.specs.Slices.{filled, valuesAfter, outputAfter}
+use Rattle.encoding.specs.Calls.{readCall, writeCall}
 
 -- every number of a list is an octet
 abbrev pub AreOctets : List ℕ → Type 0

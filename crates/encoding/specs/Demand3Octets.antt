@@ -18,7 +18,8 @@ use Rattle.items.specs.Items.{Allows, encodingBits}
 use Rattle.encoding.specs.Rows.{asks}
 use Rattle.encoding.specs.Reading.{readOutcome}
 use Rattle.encoding.specs.Writing.{writeOutcome}
-use Rattle.encoding.specs.Calls.{filled, packedAfter, outputAfter, readCall, writeCall}
+use Rattle.items.specs.Slices.{filled, packedAfter, outputAfter}
+use Rattle.encoding.specs.Calls.{readCall, writeCall}
 use Rattle.encoding.specs.Demand3.{Message, Stands}
 
 -- octets that are lent as a list are written as a message, into cap octets: it, then zeros, and its length as the count

@@ -2,7 +2,6 @@ pub mod Rows
 pub mod Reading
 pub mod Writing
 pub mod Calls
-pub mod Filled
 pub mod Demand3
 pub mod Demand3Octets
 pub mod Demand2

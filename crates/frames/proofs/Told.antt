@@ -7,7 +7,7 @@ use lib.ListN.{length}
 use lib.Seq.{take-append-seam}
 use Rattle.answer.specs.declared.Answer.{Answer}
 use Rattle.items.specs.Reading.{ReadOutcome, accept, refuse, readAnswer}
-use Rattle.encoding.specs.Calls.{valuesAfter}
+use Rattle.items.specs.Slices.{valuesAfter}
 use Rattle.lines.specs.Text.{Appended, acceptedLine, answerLine}
 use Rattle.frames.specs.Frames.{outcomeLine}
 

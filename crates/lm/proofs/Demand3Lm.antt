@@ -17,7 +17,7 @@ use Rattle.encoding.specs.Rows.{asks}
 use Rattle.items.specs.Encoding.{size, padding, padded, encoding}
 use Rattle.items.specs.Reading.{ReadOutcome, accept, readAnswer}
 use Rattle.items.specs.Writing.{written, writeAnswer}
-use Rattle.encoding.specs.Calls.{valuesAfter, outputAfter}
+use Rattle.items.specs.Slices.{valuesAfter, outputAfter}
 use Rattle.encoding.specs.Demand3.{Message, Stands}
 use Rattle.items.proofs.Messages.{one-list}
 use Rattle.encoding.proofs.Demand3.{stands-decode, decode-stands, accepted-outcome, given, stands-encode}

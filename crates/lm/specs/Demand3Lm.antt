@@ -13,7 +13,7 @@ use Rattle.answer.specs.declared.Answer.the-variants.{Accepted}
 use Rattle.table.specs.Verdict.{verdict, checked}
 use Rattle.items.specs.Items.{encodingBits}
 use Rattle.encoding.specs.Rows.{asks}
-use Rattle.encoding.specs.Calls.{filled, valuesAfter, outputAfter}
+use Rattle.items.specs.Slices.{filled, valuesAfter, outputAfter}
 use Rattle.encoding.specs.Demand3.{Message, Stands}
 use Rattle.builtin.specs.Tables.{lm}
 use Rattle.lm.specs.ByName.{readLmOutcome, writeLmOutcome, readLmCall, writeLmCall}

@@ -10,7 +10,8 @@ ghost use mathlib.Core.Path.{_≡_};
 ghost use lib.ListN.{length};
 ghost use Rattle.encoding.specs.Reading.{readOutcome};
 ghost use Rattle.encoding.specs.Writing.{writeOutcome};
-ghost use Rattle.encoding.specs.Calls.{readCall, valuesAfter, writeCall, outputAfter};
+ghost use Rattle.encoding.specs.Calls.{readCall, writeCall};
+ghost use Rattle.items.specs.Slices.{valuesAfter, outputAfter};
 ghost use Rattle.builtin.specs.Tables.{sam, srm};
 ghost use Rattle.lm.specs.ByName.{readLmOutcome, readLmCall, writeLmOutcome, writeLmCall};
 ghost use Rattle.messages.specs.Tested.{lmListTested};
@@ -22,7 +23,7 @@ pub fn read_lm(message: &[u8], values: &mut [i64]) -> Answer
     let mut none = [0u8; 0];
     let room = values.len();
     let answer = reading::lm_message(message, values, &mut none, room);
-    let kept = codec::reading::kept_count(answer);
+    let kept = read_steps::kept_count(answer);
     values::clear_values(values, kept);
     answer
 }
@@ -31,14 +32,14 @@ pub fn read_lm(message: &[u8], values: &mut [i64]) -> Answer
 pub fn read_sam(message: &[u8], values: &mut [i64]) -> Answer
     ensures { λ r. ⌜ (r ≡ readCall sam (now (message .entry)) (length (now (values .entry)))) × (now (values .exit) ≡ valuesAfter (length (now (values .entry))) (readOutcome sam (now (message .entry)) (length (now (values .entry))))) ⌝ }
 {
-    codec::reading::read_known(&builtin::SAM, builtin::SAM_ROOT, message, values)
+    reading::read_known(&builtin::SAM, builtin::SAM_ROOT, message, values)
 }
 
 // Reads an SRM into the value slice.
 pub fn read_srm(message: &[u8], values: &mut [i64]) -> Answer
     ensures { λ r. ⌜ (r ≡ readCall srm (now (message .entry)) (length (now (values .entry)))) × (now (values .exit) ≡ valuesAfter (length (now (values .entry))) (readOutcome srm (now (message .entry)) (length (now (values .entry))))) ⌝ }
 {
-    codec::reading::read_known(&builtin::SRM, builtin::SRM_ROOT, message, values)
+    reading::read_known(&builtin::SRM, builtin::SRM_ROOT, message, values)
 }
 
 // The tests before an LM's values: 12 on a list shorter than 3, 10 on the third value, 11 on the first. What passes them is
@@ -72,7 +73,7 @@ pub fn write_lm(values: &[i64], output: &mut [u8]) -> Answer
         return tested;
     };
     let none = [0u8; 0];
-    codec::writing::write_known(&builtin::LM, builtin::LM_ROOT, values, &none, output)
+    writing::write_known(&builtin::LM, builtin::LM_ROOT, values, &none, output)
 }
 
 // Writes a SAM into the output.
@@ -80,7 +81,7 @@ pub fn write_sam(values: &[i64], output: &mut [u8]) -> Answer
     ensures { λ r. ⌜ (r ≡ writeCall sam (now (values .entry)) (length (now (output .entry)))) × (now (output .exit) ≡ outputAfter (length (now (output .entry))) (writeOutcome sam (now (values .entry)) (length (now (output .entry))))) ⌝ }
 {
     let none = [0u8; 0];
-    codec::writing::write_known(&builtin::SAM, builtin::SAM_ROOT, values, &none, output)
+    writing::write_known(&builtin::SAM, builtin::SAM_ROOT, values, &none, output)
 }
 
 // Writes an SRM into the output.
@@ -88,5 +89,5 @@ pub fn write_srm(values: &[i64], output: &mut [u8]) -> Answer
     ensures { λ r. ⌜ (r ≡ writeCall srm (now (values .entry)) (length (now (output .entry)))) × (now (output .exit) ≡ outputAfter (length (now (output .entry))) (writeOutcome srm (now (values .entry)) (length (now (output .entry))))) ⌝ }
 {
     let none = [0u8; 0];
-    codec::writing::write_known(&builtin::SRM, builtin::SRM_ROOT, values, &none, output)
+    writing::write_known(&builtin::SRM, builtin::SRM_ROOT, values, &none, output)
 }

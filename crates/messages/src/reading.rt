@@ -8,7 +8,7 @@ ghost use mathlib.Core.Path.{_≡_};
 ghost use lib.ListN.{set};
 ghost use Rattle.values.specs.Values.{setValue};
 ghost use Rattle.items.specs.Reading.{readAnswer};
-ghost use Rattle.codec.specs.Kept.{KeptBy};
+ghost use Rattle.read_steps.specs.Ends.{KeptBy};
 ghost use Rattle.lm.specs.ByName.{readLmOutcome};
 ghost use Rattle.messages.specs.Tested.{lmTested};
 
@@ -45,7 +45,7 @@ pub fn lm_message(message: &[u8], values: &mut [i64], packed: &mut [u8], room: u
     let Answer::Accepted(_) = tested else {
         return tested;
     };
-    codec::reading::read_message(
+    reading::read_message(
         &builtin::LM,
         builtin::LM_ROOT,
         message,

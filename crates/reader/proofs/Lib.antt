@@ -1,4 +1,2 @@
-pub mod Flow
 pub mod Beginnings
-pub mod Octets
 pub mod Records

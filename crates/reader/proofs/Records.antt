@@ -10,12 +10,12 @@ use Rattle.octets.specs.Numbers.{u16}
 use Rattle.encoding.specs.Rows.{items}
 use Rattle.parts.proofs.Records.{leftAfter, flagsBehind, fieldsBehind, record-flag, record-marked}
 use Rattle.reader.proofs.Begun.{the-type}
-use Rattle.reader.specs.declared.Cursor.{Cursor}
+use Rattle.read_steps.specs.declared.Cursor.{Cursor}
 use Rattle.reader.specs.declared.Begun.{Begun}
 use Rattle.reader.specs.declared.Begun.the-variants.{Done, Run, Branch, Fields, Refused}
-use Rattle.reader.specs.Reads.{State, stateAt, Continues}
+use Rattle.read_steps.specs.Reads.{State, stateAt, Continues}
 use Rattle.reader.specs.Begins.{Begins, Marks}
-use Rattle.reader.proofs.Flow.{continues-trans, continues-same}
+use Rattle.read_steps.proofs.Flow.{continues-trans, continues-same}
 
 module _ {message : List ℕ} {room : ℕ} {start here : State} (t : List ℕ) (o i flag mask : ℕ)
     (inside : i < u16 t (o + 4)) (small : mask < 2 ^ i) (is : flag ≡ u16 t (o + 8 + 4 * i))

@@ -10,11 +10,11 @@ use Rattle.rules.specs.Rules.{Earlier}
 use Rattle.items.specs.Items.{Items, stop, times}
 use Rattle.encoding.specs.Rows.{presence, items}
 use Rattle.parts.specs.Parts.{markedFields}
-use Rattle.reader.specs.declared.Step.{Step}
-use Rattle.reader.specs.declared.Step.the-variants.{Past, Refused as StepRefused}
+use Rattle.read_steps.specs.declared.Step.{Step}
+use Rattle.read_steps.specs.declared.Step.the-variants.{Past, Refused as StepRefused}
 use Rattle.reader.specs.declared.Begun.{Begun}
 use Rattle.reader.specs.declared.Begun.the-variants.{Done, Run, Branch, Fields, Refused}
-use Rattle.reader.specs.Reads.{State, stateAt, Reads, Continues}
+use Rattle.read_steps.specs.Reads.{State, stateAt, Reads, Continues}
 
 -- a step as the beginning of a row that asks for no more
 abbrev pub wholeOf : Step → Begun

@@ -1,59 +1,19 @@
 // The items of a row that are its own: a number, a variable number, octets, the length of a counted run, the presence bits of
 // a record, the index of a choice. Each is read, and kept where there is room for its value.
 use crate::Begun;
-use crate::Cursor;
-use crate::Step;
-use answer::Refusal;
-use bits::BitPlace;
-use bits::OctetSize;
-use item::Item;
+use read_steps::Cursor;
+use read_steps::Step;
 use row::Row;
 ghost use mathlib.Core.Path.{_≡_};
 ghost use Prim.Native.Nat.{_+_, _<_, _≤_};
-ghost use lib.IntN.{pos};
-ghost use lib.ListN.{length, set};
+ghost use lib.ListN.{length};
 ghost use Rattle.octets.specs.Numbers.{u16, u32, signed};
 ghost use Rattle.item.specs.Code.{Code};
-ghost use Rattle.values.specs.Values.{setValue};
 ghost use Rattle.rules.specs.Rules.{Obeys, Starts};
-ghost use Rattle.items.specs.Items.{one, times};
+ghost use Rattle.items.specs.Items.{one};
 ghost use Rattle.encoding.specs.Rows.{items};
-ghost use Rattle.reader.specs.Reads.{Reads, stateAt, keptStep, keptIn, countOf};
+ghost use Rattle.read_steps.specs.Reads.{stateAt};
 ghost use Rattle.reader.specs.Begins.{Begins, Marks, wholeOf};
-
-// An item that was read is kept, where there is room for its value.
-fn kept(item: Item, values: &mut [i64], packed: &mut [u8], room: usize, cursor: Cursor) -> Step
-    ensures { λ r. ⌜ (r ≡ keptStep item room cursor) × (now (values .exit) ≡ keptIn set item room (cursor .count) (now (values .entry))) × (now (packed .exit) ≡ keptIn setValue item room (cursor .count) (now (packed .entry))) ⌝ }
-{
-    let place = cursor.place.0;
-    match item {
-        Item::Bad(number) => Step::Refused(Refusal { number, place }),
-        Item::Value(value, next) => {
-            let at = cursor.count;
-            if room <= at {
-                return Step::Refused(Refusal {
-                    number: Refusal::NO_ROOM,
-                    place,
-                });
-            }
-            values::keep(values, packed, at, value);
-            Step::Past(Cursor {
-                place: next,
-                count: at + 1,
-            })
-        }
-    }
-}
-
-// The value of an item as a count.
-fn count_of(item: Item) -> usize
-    ensures { λ r. ⌜ r ≡ countOf item ⌝ }
-{
-    match item {
-        Item::Bad(_) => 0,
-        Item::Value(value, _) => item::count_of(value),
-    }
-}
 
 // A step as the beginning of a row that asks for no more.
 fn whole(step: Step) -> Begun
@@ -81,7 +41,7 @@ fn begin_number(
     let low = Row::low_at(table, at);
     let span = Row::span_at(table, at);
     let item = read_item::number(message, cursor.place, low, span as u32);
-    whole(kept(item, values, packed, room, cursor))
+    whole(read_steps::kept(item, values, packed, room, cursor))
 }
 
 // A variable number row.
@@ -98,57 +58,7 @@ fn begin_variable(
     ensures { λ r. ⌜ Begins (now (table .entry)) at (now (message .entry)) room (one Code.variable) (stateAt cursor (now (values .entry)) (now (packed .entry))) (now (values .exit)) (now (packed .exit)) r ⌝ }
 {
     let item = read_item::variable(message, cursor.place);
-    whole(kept(item, values, packed, room, cursor))
-}
-
-// So many octets, each a value, one by one.
-fn read_singly(
-    count: usize,
-    message: &[u8],
-    values: &mut [i64],
-    packed: &mut [u8],
-    room: usize,
-    cursor: Cursor,
-) -> Step
-    requires { ⌜ length (now message) ≤ 65535 ⌝ }
-    ensures { λ r. ⌜ Reads (now (message .entry)) room (times count (one (Code.number (pos 0) 255))) (stateAt cursor (now (values .entry)) (now (packed .entry))) (now (values .exit)) (now (packed .exit)) r ⌝ }
-{
-    let mut done = 0;
-    let mut here = cursor;
-    while done < count {
-        let item = read_item::octet(message, here.place);
-        let step = kept(item, values, packed, room, here);
-        let Step::Past(next) = step else {
-            return step;
-        };
-        here = next;
-        done += 1;
-    }
-    Step::Past(here)
-}
-
-// So many octets, each a value: those that are there, with room for their values, at once. What is left is refused at its first.
-fn read_octets(
-    count: usize,
-    message: &[u8],
-    values: &mut [i64],
-    packed: &mut [u8],
-    room: usize,
-    cursor: Cursor,
-) -> Step
-    requires { ⌜ length (now message) ≤ 65535 ⌝ }
-    ensures { λ r. ⌜ Reads (now (message .entry)) room (times count (one (Code.number (pos 0) 255))) (stateAt cursor (now (values .entry)) (now (packed .entry))) (now (values .exit)) (now (packed .exit)) r ⌝ }
-{
-    let free = runs::fitting(room, cursor.count, count);
-    let end = BitPlace::after(OctetSize(message.len()));
-    let there = OctetSize::between(cursor.place, end);
-    let ready = runs::fitting(there.0, 0, free);
-    runs::read(message, cursor.place, ready, values, packed, cursor.count);
-    let next = Cursor {
-        place: BitPlace::further(cursor.place, OctetSize(ready)),
-        count: cursor.count + ready,
-    };
-    read_singly(count - ready, message, values, packed, room, next)
+    whole(read_steps::kept(item, values, packed, room, cursor))
 }
 
 // A row of octets: a length, then each octet.
@@ -166,12 +76,12 @@ fn begin_octets(
 {
     let most = Row::count_at(table, at);
     let item = read_item::length(message, cursor.place, 0, most as u32);
-    let step = kept(item, values, packed, room, cursor);
+    let step = read_steps::kept(item, values, packed, room, cursor);
     let Step::Past(next) = step else {
         return whole(step);
     };
-    let count = count_of(item);
-    whole(read_octets(count, message, values, packed, room, next))
+    let count = read_steps::count_of(item);
+    whole(read_steps::read_octets(count, message, values, packed, room, next))
 }
 
 // A counted run: a length, which leaves that many items of the row that it refers to.
@@ -190,11 +100,11 @@ fn begin_counted(
     let most = Row::count_at(table, at);
     let row = Row::run_at(table, at);
     let item = read_item::length(message, cursor.place, 0, most as u32);
-    let step = kept(item, values, packed, room, cursor);
+    let step = read_steps::kept(item, values, packed, room, cursor);
     let Step::Past(next) = step else {
         return whole(step);
     };
-    Begun::Run(count_of(item), row, next)
+    Begun::Run(read_steps::count_of(item), row, next)
 }
 
 // A choice: an index, which leaves the row of its branch.
@@ -212,11 +122,11 @@ fn begin_choice(
 {
     let branches = Row::count_at(table, at);
     let item = read_item::index(message, cursor.place, table, at + Row::HEAD, branches);
-    let step = kept(item, values, packed, room, cursor);
+    let step = read_steps::kept(item, values, packed, room, cursor);
     let Step::Past(next) = step else {
         return whole(step);
     };
-    let row = Row::branch_at(table, at, count_of(item));
+    let row = Row::branch_at(table, at, read_steps::count_of(item));
     Begun::Branch(row, next)
 }
 
@@ -237,11 +147,11 @@ fn mark(
         return Begun::Fields(mask * 2 + 1, cursor);
     }
     let item = read_item::number(message, cursor.place, 0, 1);
-    let step = kept(item, values, packed, room, cursor);
+    let step = read_steps::kept(item, values, packed, room, cursor);
     let Step::Past(next) = step else {
         return whole(step);
     };
-    if count_of(item) == 1 {
+    if read_steps::count_of(item) == 1 {
         return Begun::Fields(mask * 2 + 1, next);
     }
     Begun::Fields(mask * 2, next)

@@ -3,7 +3,8 @@
 mod begin;
 
 use answer::Refusal;
-use bits::BitPlace;
+use read_steps::Cursor;
+use read_steps::Step;
 use row::Row;
 ghost use mathlib.Core.Path.{_≡_};
 ghost use Prim.Native.Nat.{_+_, _<_, _≤_, _^_};
@@ -12,20 +13,8 @@ ghost use Rattle.octets.specs.Numbers.{u16};
 ghost use Rattle.rules.specs.Rules.{Obeys, Starts, Earlier};
 ghost use Rattle.items.specs.Items.{times};
 ghost use Rattle.encoding.specs.Rows.{items};
-ghost use Rattle.reader.specs.Reads.{Reads, stateAt};
+ghost use Rattle.read_steps.specs.Reads.{Reads, stateAt};
 ghost use Rattle.parts.specs.Parts.{markedFields, fieldIf};
-
-// Where a reader stands: the next bit of the message, and how many values were read.
-pub struct Cursor {
-    pub place: BitPlace,
-    pub count: usize,
-}
-
-// What reading a row gives: the cursor after it, or the refusal.
-pub enum Step {
-    Past(Cursor),
-    Refused(Refusal),
-}
 
 // What a row's own items leave to be read: nothing, a run of the row at an offset, the row at an offset, the fields of the
 // record that a mask marks as present (the first field on top); or the refusal.

@@ -9,7 +9,8 @@ ghost use Rattle.values.specs.Values.{valuesIn};
 ghost use Rattle.table.specs.Verdict.{verdict, checked};
 ghost use Rattle.encoding.specs.Reading.{readOutcome};
 ghost use Rattle.encoding.specs.Writing.{writeOutcome};
-ghost use Rattle.encoding.specs.Calls.{readCall, packedAfter, writeCall, outputAfter};
+ghost use Rattle.encoding.specs.Calls.{readCall, writeCall};
+ghost use Rattle.items.specs.Slices.{packedAfter, outputAfter};
 ghost use Rattle.teyolxan.specs.Told.{told};
 
 #[no_mangle]

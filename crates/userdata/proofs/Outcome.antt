@@ -15,11 +15,11 @@ use Rattle.items.specs.Items.{_then_}
 use Rattle.encoding.specs.Rows.{items}
 use Rattle.items.specs.Reading.{ReadOutcome, accept, refuse, readAnswer}
 use Rattle.items.specs.Walk.{Walk, walked, blocked, walk}
-use Rattle.reader.specs.declared.Cursor.{Cursor}
-use Rattle.reader.specs.declared.Step.{Step}
-use Rattle.reader.specs.declared.Step.the-variants.{Past, Refused as StepRefused}
-use Rattle.reader.specs.Reads.{cursorAt, stepOf, stateAt, Reads}
-use Rattle.reader.proofs.Flow.{continues-part, refused-part}
+use Rattle.read_steps.specs.declared.Cursor.{Cursor}
+use Rattle.read_steps.specs.declared.Step.{Step}
+use Rattle.read_steps.specs.declared.Step.the-variants.{Past, Refused as StepRefused}
+use Rattle.read_steps.specs.Reads.{cursorAt, stepOf, stateAt, Reads}
+use Rattle.read_steps.proofs.Flow.{continues-part, refused-part}
 use Rattle.builtin.specs.Tables.{lm}
 use Rattle.lm.specs.ByName.{readLmOutcome}
 use Rattle.userdata.specs.declared.Span.{Span}

@@ -10,12 +10,12 @@ use Rattle.octets.specs.Numbers.{u16}
 use Rattle.encoding.specs.Rows.{items}
 use Rattle.parts.proofs.Records.{leftAfter, flagsBehind, fieldsBehind, record-flag, record-marked}
 use Rattle.writer.proofs.Begun.{the-type}
-use Rattle.writer.specs.declared.Cursor.{Cursor}
+use Rattle.write_steps.specs.declared.Cursor.{Cursor}
 use Rattle.writer.specs.declared.Begun.{Begun}
 use Rattle.writer.specs.declared.Begun.the-variants.{Done, Run, Branch, Fields, Refused}
-use Rattle.writer.specs.Writes.{State, stateAt, Continues}
+use Rattle.write_steps.specs.Writes.{State, stateAt, Continues}
 use Rattle.writer.specs.Begins.{Begins, Marks}
-use Rattle.writer.proofs.Flow.{continues-trans, continues-same}
+use Rattle.write_steps.proofs.Flow.{continues-trans, continues-same}
 
 module _ {list : List ℤ} {start here : State} (t : List ℕ) (o i flag mask : ℕ)
     (l : i < u16 t (o + 4)) (small : mask < 2 ^ i) (ef : flag ≡ u16 t (o + 8 + 4 * i)) (f : Continues list (items t o) start (leftAfter t o i mask) here) where

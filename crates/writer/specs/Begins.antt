@@ -10,11 +10,11 @@ use Rattle.rules.specs.Rules.{Earlier}
 use Rattle.items.specs.Items.{Items, stop, times}
 use Rattle.encoding.specs.Rows.{presence, items}
 use Rattle.parts.specs.Parts.{markedFields}
-use Rattle.writer.specs.declared.Step.{Step}
-use Rattle.writer.specs.declared.Step.the-variants.{Past, Refused as StepRefused}
+use Rattle.write_steps.specs.declared.Step.{Step}
+use Rattle.write_steps.specs.declared.Step.the-variants.{Past, Refused as StepRefused}
 use Rattle.writer.specs.declared.Begun.{Begun}
 use Rattle.writer.specs.declared.Begun.the-variants.{Done, Run, Branch, Fields, Refused}
-use Rattle.writer.specs.Writes.{State, stateAt, Writes, Continues}
+use Rattle.write_steps.specs.Writes.{State, stateAt, Writes, Continues}
 
 -- a step as the beginning of a row that asks for no more
 abbrev pub wholeOf : Step → Begun

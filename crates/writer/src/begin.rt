@@ -1,61 +1,20 @@
 // The items of a row that are its own: a number, a variable number, octets, the length of a counted run, the presence bits of
 // a record, the index of a choice. Each takes the next value of the list; a value that is missing is refused as a wrong one.
 use crate::Begun;
-use crate::Cursor;
-use crate::Given;
-use crate::Step;
-use answer::Refusal;
-use bits::BitPlace;
-use bits::OctetSize;
-use item::Put;
 use row::Row;
+use write_steps::Cursor;
+use write_steps::Given;
+use write_steps::Step;
 ghost use mathlib.Core.Path.{_≡_};
 ghost use Prim.Native.Nat.{_+_, _<_, _≤_};
-ghost use lib.IntN.{pos};
 ghost use lib.ListN.{length};
 ghost use Rattle.octets.specs.Numbers.{u16, u32, signed};
 ghost use Rattle.item.specs.Code.{Code};
 ghost use Rattle.rules.specs.Rules.{Obeys, Starts};
-ghost use Rattle.items.specs.Items.{one, times};
+ghost use Rattle.items.specs.Items.{one};
 ghost use Rattle.encoding.specs.Rows.{items};
-ghost use Rattle.writer.specs.Writes.{Writes, listIn, stateAt, Gives, missingAt, movedStep};
+ghost use Rattle.write_steps.specs.Writes.{listIn, stateAt};
 ghost use Rattle.writer.specs.Begins.{Begins, Marks, wholeOf};
-
-// The value at an index of the list, and the index after it.
-fn next_value(values: &[i64], packed: &[u8], index: usize) -> Given
-    ensures { λ r. ⌜ Gives (listIn (now (values .entry)) (now (packed .entry))) index r ⌝ }
-{
-    if values::count(values, packed) <= index {
-        return Given::Missing;
-    }
-    Given::Value(values::value_at(values, packed, index), index + 1)
-}
-
-// The refusal of a value that is missing.
-fn missing(index: usize) -> Refusal
-    ensures { λ r. ⌜ r ≡ missingAt index ⌝ }
-{
-    Refusal {
-        number: Refusal::WRONG_VALUE,
-        place: index,
-    }
-}
-
-// The cursor after a value that was put; or the refusal, at the value's index.
-fn moved(put: Put, index: usize, after: usize) -> Step
-    ensures { λ r. ⌜ r ≡ movedStep put index after ⌝ }
-{
-    match put {
-        Put::Next(place) => Step::Past(Cursor {
-            place,
-            index: after,
-        }),
-        Put::Unfit(number) => Step::Refused(Refusal {
-            number,
-            place: index,
-        }),
-    }
-}
 
 // A step as the beginning of a row that asks for no more.
 fn whole(step: Step) -> Begun
@@ -79,14 +38,14 @@ fn begin_number(
     requires { ⌜ (at + 12 ≤ length (now table)) × (length (now output) ≤ 65535) ⌝ }
     ensures { λ r. ⌜ Begins (now (table .entry)) at (listIn (now (values .entry)) (now (packed .entry))) (one (Code.number (signed (u32 (now (table .entry)) (at + 4))) (u32 (now (table .entry)) (at + 8)))) (stateAt cursor (now (output .entry))) (now (output .exit)) r ⌝ }
 {
-    let given = next_value(values, packed, cursor.index);
+    let given = write_steps::next_value(values, packed, cursor.index);
     let Given::Value(value, after) = given else {
-        return Begun::Refused(missing(cursor.index));
+        return Begun::Refused(write_steps::missing(cursor.index));
     };
     let low = Row::low_at(table, at);
     let span = Row::span_at(table, at);
     let put = write_item::number(output, cursor.place, low, span as u32, value);
-    whole(moved(put, cursor.index, after))
+    whole(write_steps::moved(put, cursor.index, after))
 }
 
 // A variable number row.
@@ -101,60 +60,12 @@ fn begin_variable(
     requires { ⌜ length (now output) ≤ 65535 ⌝ }
     ensures { λ r. ⌜ Begins (now (table .entry)) at (listIn (now (values .entry)) (now (packed .entry))) (one Code.variable) (stateAt cursor (now (output .entry))) (now (output .exit)) r ⌝ }
 {
-    let given = next_value(values, packed, cursor.index);
+    let given = write_steps::next_value(values, packed, cursor.index);
     let Given::Value(value, after) = given else {
-        return Begun::Refused(missing(cursor.index));
+        return Begun::Refused(write_steps::missing(cursor.index));
     };
     let put = write_item::variable(output, cursor.place, value);
-    whole(moved(put, cursor.index, after))
-}
-
-// So many octets, each a value, one by one.
-fn write_singly(
-    count: usize,
-    values: &[i64],
-    packed: &[u8],
-    output: &mut [u8],
-    cursor: Cursor,
-) -> Step
-    requires { ⌜ length (now output) ≤ 65535 ⌝ }
-    ensures { λ r. ⌜ Writes (listIn (now (values .entry)) (now (packed .entry))) (times count (one (Code.number (pos 0) 255))) (stateAt cursor (now (output .entry))) (now (output .exit)) r ⌝ }
-{
-    let mut done = 0;
-    let mut here = cursor;
-    while done < count {
-        let given = next_value(values, packed, here.index);
-        let Given::Value(value, after) = given else {
-            return Step::Refused(missing(here.index));
-        };
-        let put = write_item::octet(output, here.place, value);
-        let step = moved(put, here.index, after);
-        let Step::Past(next) = step else {
-            return step;
-        };
-        here = next;
-        done += 1;
-    }
-    Step::Past(here)
-}
-
-// So many octets, each a value: those that are octets, with room for them, at once. What is left is refused at its first.
-fn write_octets(
-    count: usize,
-    values: &[i64],
-    packed: &[u8],
-    output: &mut [u8],
-    cursor: Cursor,
-) -> Step
-    requires { ⌜ length (now output) ≤ 65535 ⌝ }
-    ensures { λ r. ⌜ Writes (listIn (now (values .entry)) (now (packed .entry))) (times count (one (Code.number (pos 0) 255))) (stateAt cursor (now (output .entry))) (now (output .exit)) r ⌝ }
-{
-    let done = runs::write(values, packed, cursor.index, count, output, cursor.place);
-    let next = Cursor {
-        place: BitPlace::further(cursor.place, OctetSize(done)),
-        index: cursor.index + done,
-    };
-    write_singly(count - done, values, packed, output, next)
+    whole(write_steps::moved(put, cursor.index, after))
 }
 
 // A row of octets: a length, then each octet.
@@ -169,18 +80,18 @@ fn begin_octets(
     requires { ⌜ Obeys (now table) × Starts (now table) at × (u16 (now table) (at + 2) ≡ 7) × (length (now output) ≤ 65535) ⌝ }
     ensures { λ r. ⌜ Begins (now (table .entry)) at (listIn (now (values .entry)) (now (packed .entry))) (items (now (table .entry)) at) (stateAt cursor (now (output .entry))) (now (output .exit)) r ⌝ }
 {
-    let given = next_value(values, packed, cursor.index);
+    let given = write_steps::next_value(values, packed, cursor.index);
     let Given::Value(value, after) = given else {
-        return Begun::Refused(missing(cursor.index));
+        return Begun::Refused(write_steps::missing(cursor.index));
     };
     let most = Row::count_at(table, at);
     let put = write_item::length(output, cursor.place, 0, most as u32, value);
-    let step = moved(put, cursor.index, after);
+    let step = write_steps::moved(put, cursor.index, after);
     let Step::Past(next) = step else {
         return whole(step);
     };
     let count = item::count_of(value);
-    whole(write_octets(count, values, packed, output, next))
+    whole(write_steps::write_octets(count, values, packed, output, next))
 }
 
 // A counted run: a length, which leaves that many items of the row that it refers to.
@@ -195,14 +106,14 @@ fn begin_counted(
     requires { ⌜ Obeys (now table) × Starts (now table) at × (u16 (now table) (at + 2) ≡ 4) × (length (now output) ≤ 65535) ⌝ }
     ensures { λ r. ⌜ Begins (now (table .entry)) at (listIn (now (values .entry)) (now (packed .entry))) (items (now (table .entry)) at) (stateAt cursor (now (output .entry))) (now (output .exit)) r ⌝ }
 {
-    let given = next_value(values, packed, cursor.index);
+    let given = write_steps::next_value(values, packed, cursor.index);
     let Given::Value(value, after) = given else {
-        return Begun::Refused(missing(cursor.index));
+        return Begun::Refused(write_steps::missing(cursor.index));
     };
     let most = Row::count_at(table, at);
     let row = Row::run_at(table, at);
     let put = write_item::length(output, cursor.place, 0, most as u32, value);
-    let step = moved(put, cursor.index, after);
+    let step = write_steps::moved(put, cursor.index, after);
     let Step::Past(next) = step else {
         return whole(step);
     };
@@ -221,13 +132,13 @@ fn begin_choice(
     requires { ⌜ Obeys (now table) × Starts (now table) at × (u16 (now table) (at + 2) ≡ 6) × (length (now output) ≤ 65535) ⌝ }
     ensures { λ r. ⌜ Begins (now (table .entry)) at (listIn (now (values .entry)) (now (packed .entry))) (items (now (table .entry)) at) (stateAt cursor (now (output .entry))) (now (output .exit)) r ⌝ }
 {
-    let given = next_value(values, packed, cursor.index);
+    let given = write_steps::next_value(values, packed, cursor.index);
     let Given::Value(value, after) = given else {
-        return Begun::Refused(missing(cursor.index));
+        return Begun::Refused(write_steps::missing(cursor.index));
     };
     let branches = Row::count_at(table, at);
     let put = write_item::index(output, cursor.place, table, at + Row::HEAD, branches, value);
-    let step = moved(put, cursor.index, after);
+    let step = write_steps::moved(put, cursor.index, after);
     let Step::Past(next) = step else {
         return whole(step);
     };
@@ -250,12 +161,12 @@ fn mark(
     if flag == 0 {
         return Begun::Fields(mask * 2 + 1, cursor);
     }
-    let given = next_value(values, packed, cursor.index);
+    let given = write_steps::next_value(values, packed, cursor.index);
     let Given::Value(value, after) = given else {
-        return Begun::Refused(missing(cursor.index));
+        return Begun::Refused(write_steps::missing(cursor.index));
     };
     let put = write_item::number(output, cursor.place, 0, 1, value);
-    let step = moved(put, cursor.index, after);
+    let step = write_steps::moved(put, cursor.index, after);
     let Step::Past(next) = step else {
         return whole(step);
     };

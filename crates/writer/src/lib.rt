@@ -3,8 +3,9 @@
 mod begin;
 
 use answer::Refusal;
-use bits::BitPlace;
 use row::Row;
+use write_steps::Cursor;
+use write_steps::Step;
 ghost use mathlib.Core.Path.{_≡_};
 ghost use Prim.Native.Nat.{_+_, _<_, _≤_, _^_};
 ghost use lib.ListN.{length};
@@ -13,25 +14,7 @@ ghost use Rattle.rules.specs.Rules.{Obeys, Starts, Earlier};
 ghost use Rattle.items.specs.Items.{times};
 ghost use Rattle.encoding.specs.Rows.{items};
 ghost use Rattle.parts.specs.Parts.{markedFields, fieldIf};
-ghost use Rattle.writer.specs.Writes.{Writes, listIn, stateAt};
-
-// Where a writer stands: the next bit of the output, and the index of the next value.
-pub struct Cursor {
-    pub place: BitPlace,
-    pub index: usize,
-}
-
-// What writing a row gives: the cursor after it, or the refusal, whose place is the index of its value.
-pub enum Step {
-    Past(Cursor),
-    Refused(Refusal),
-}
-
-// The next value of the list and the index after it, or that the list ends before it.
-pub enum Given {
-    Value(i64, usize),
-    Missing,
-}
+ghost use Rattle.write_steps.specs.Writes.{Writes, listIn, stateAt};
 
 // What a row's own items leave to be written: nothing, a run of the row at an offset, the row at an offset, the fields of the
 // record that a mask marks as present (the first field on top); or the refusal.

@@ -1,27 +1,21 @@
 -- `codec::read` meets its contract. A broken table; or one that is known to pass.
 -- Assumes nothing.
-use Prim.Native.Nat.{ℕ, _+_, _-_, _*_, _/_, _≤_, _<_}
-use mathlib.Core.Path.{_≡_, refl, sym, ap, _∙_}
-use native.Mathlib.Omega.{arith}
+use Prim.Native.Nat.{_-_}
+use mathlib.Core.Path.{sym, ap, _∙_}
 use denote.Ref.{now}
 use lib.ListN.{length}
-use mathlib.Core.List.{List, _++_}
+use mathlib.Core.List.{List}
 use lib.IntN.{ℤ, pos}
-use lib.ListN.{take, replicate}
-use Rattle.encoding.specs.Reading.{readOutcome}
-use Rattle.items.specs.Reading.{readAnswer, readValues}
-use Rattle.encoding.specs.Calls.{filled, valuesAfter}
-use Rattle.values.specs.Values.{listOctets}
+use Rattle.items.specs.Slices.{filled}
 use Rattle.rules.specs.Rules.{Obeys}
 use Rattle.table.proofs.Decides.{passes-exactly}
-use Rattle.codec.specs.Kept.{keptCount, messageOutcome}
-use Rattle.codec.proofs.Settled.{accepted-obeys, passed-outcome, broken-outcome, outcome-fits, count-is, settled-values, settled-packed}
+use Rattle.reading.proofs.Passed.{accepted-obeys, broken-outcome}
 use borrow.Author.Needs.{needs}
 use Rattle.codec.proofs.read.Statement.{statement}
 use Rattle.codec.proofs.read.Tie as tie
 use Rattle.codec.proofs.read.Reads as reads
 use Rattle.codec.proofs.read.Lts as lts
-use Rattle.codec.proofs.reading.read_known.Reads as read-known-reads
+use Rattle.reading.proofs.read_known.Reads as read-known-reads
 use Rattle.table.proofs.check.Reads as check-reads
 use Rattle.table.proofs.passed.root.Reads as root-reads
 use Rattle.values.proofs.clear_values.Reads as clear-values-reads

@@ -1,28 +1,28 @@
 -- `codec::read_packed` meets its contract. A broken table; or the outcome kept, and zeros after it.
 -- Assumes nothing.
-use Prim.Native.Nat.{ℕ, _+_, _-_, _*_, _/_, _≤_, _<_}
-use mathlib.Core.Path.{_≡_, refl, sym, ap, _∙_}
+use Prim.Native.Nat.{_-_, _*_, _/_}
+use mathlib.Core.Path.{_≡_, sym, ap, _∙_}
 use native.Mathlib.Omega.{arith}
 use denote.Ref.{now}
 use lib.ListN.{length}
-use mathlib.Core.List.{List, _++_}
-use lib.IntN.{ℤ, pos}
-use lib.ListN.{take, replicate}
-use Rattle.encoding.specs.Reading.{readOutcome}
-use Rattle.items.specs.Reading.{readAnswer, readValues}
-use Rattle.encoding.specs.Calls.{filled, valuesAfter}
+use mathlib.Core.List.{List}
+use lib.IntN.{ℤ}
+use Rattle.items.specs.Reading.{readValues}
+use Rattle.items.specs.Slices.{filled}
 use Rattle.values.specs.Values.{listOctets}
 use Rattle.rules.specs.Rules.{Obeys}
 use Rattle.table.proofs.Decides.{passes-exactly}
-use Rattle.codec.specs.Kept.{keptCount, messageOutcome}
-use Rattle.codec.proofs.Settled.{accepted-obeys, passed-outcome, broken-outcome, outcome-fits, count-is, settled-values, settled-packed}
+use Rattle.read_steps.specs.Ends.{keptCount}
+use Rattle.reading.specs.Outcome.{messageOutcome}
+use Rattle.reading.proofs.Passed.{accepted-obeys, passed-outcome, broken-outcome, outcome-fits}
+use Rattle.read_steps.proofs.Settled.{count-is, settled-packed}
 use borrow.Author.Needs.{needs}
 use Rattle.codec.proofs.read_packed.Statement.{statement}
 use Rattle.codec.proofs.read_packed.Tie as tie
 use Rattle.codec.proofs.read_packed.Reads as reads
 use Rattle.codec.proofs.read_packed.Lts as lts
-use Rattle.codec.proofs.reading.kept_count.Reads as kept-count-reads
-use Rattle.codec.proofs.reading.read_passed.Reads as read-passed-reads
+use Rattle.read_steps.proofs.kept_count.Reads as kept-count-reads
+use Rattle.reading.proofs.read_passed.Reads as read-passed-reads
 use Rattle.table.proofs.check.Reads as check-reads
 use Rattle.table.proofs.passed.root.Reads as root-reads
 use Rattle.values.proofs.clear_octets.Reads as clear-octets-reads

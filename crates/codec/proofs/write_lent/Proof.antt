@@ -1,31 +1,22 @@
 -- `codec::write_lent` meets its contract. A broken table; or one that is known to pass.
 -- Assumes nothing.
-use Prim.Native.Nat.{ℕ, _+_, _-_, _*_, _/_, _≤_, _<_, max, min}
-use mathlib.Core.Path.{_≡_, refl, sym, ap, _∙_}
-use native.Mathlib.Omega.{arith}
+use Prim.Native.Nat.{ℕ, _-_}
+use mathlib.Core.Path.{sym, ap, _∙_}
 use denote.Ref.{now}
-use lib.ListN.{length, getD}
-use mathlib.Core.Path.{subst}
-use mathlib.Core.List.{List, _++_, append-nil}
-use lib.IntN.{ℤ}
-use lib.ListN.{take, drop, length-take, length-drop, length-append}
+use lib.ListN.{length}
+use mathlib.Core.List.{List}
 use Rattle.rules.specs.Rules.{Obeys}
 use Rattle.table.proofs.Decides.{passes-exactly}
-use Rattle.values.specs.Values.{valuesIn, valuesFrom}
-use Rattle.encoding.specs.Rows.{asks}
-use Rattle.items.specs.Writing.{WriteOutcome, encode, writeAnswer, writeOctets}
-use Rattle.encoding.specs.Writing.{writeOutcome}
-use Rattle.encoding.specs.Calls.{filled, writeCall, outputAfter}
-use Rattle.writer.specs.Writes.{listIn}
-use Rattle.codec.specs.Kept.{WrittenBy, writtenCount}
-use Rattle.codec.proofs.Settled.{accepted-obeys}
-use Rattle.codec.proofs.Ends.{counted-output, written-is, written-fits, settled-output, write-passed, write-broken}
+use Rattle.items.specs.Slices.{filled}
+use Rattle.write_steps.specs.Writes.{listIn}
+use Rattle.reading.proofs.Passed.{accepted-obeys}
+use Rattle.writing.proofs.Passed.{write-broken}
 use borrow.Author.Needs.{needs}
 use Rattle.codec.proofs.write_lent.Statement.{statement}
 use Rattle.codec.proofs.write_lent.Tie as tie
 use Rattle.codec.proofs.write_lent.Reads as reads
 use Rattle.codec.proofs.write_lent.Lts as lts
-use Rattle.codec.proofs.writing.write_known.Reads as write-known-reads
+use Rattle.writing.proofs.write_known.Reads as write-known-reads
 use Rattle.table.proofs.check.Reads as check-reads
 use Rattle.table.proofs.passed.root.Reads as root-reads
 use Rattle.values.proofs.clear_octets.Reads as clear-octets-reads

@@ -8,8 +8,8 @@ use lib.ListN.{length}
 use Rattle.builtin.specs.Tables.{lm, sam, srm}
 use Rattle.builtin.proofs.Tables.{lm-obeys, lm-root, sam-obeys, sam-root, srm-obeys, srm-root}
 use Rattle.items.specs.Reading.{readValues}
-use Rattle.codec.specs.Kept.{keptCount}
-use Rattle.codec.proofs.Settled.{count-is, settled-values}
+use Rattle.read_steps.specs.Ends.{keptCount}
+use Rattle.read_steps.proofs.Settled.{count-is, settled-values}
 use Rattle.lm.specs.ByName.{readLmOutcome}
 use Rattle.messages.proofs.Tests.{lm-fits}
 use borrow.Author.Needs.{needs}
@@ -17,7 +17,7 @@ use Rattle.messages.proofs.read_lm.Statement.{statement}
 use Rattle.messages.proofs.read_lm.Tie as tie
 use Rattle.messages.proofs.read_lm.Reads as reads
 use Rattle.messages.proofs.read_lm.Lts as lts
-use Rattle.codec.proofs.reading.kept_count.Reads as kept-count-reads
+use Rattle.read_steps.proofs.kept_count.Reads as kept-count-reads
 use Rattle.messages.proofs.reading.lm_message.Reads as lm-message-reads
 use Rattle.values.proofs.clear_values.Reads as clear-values-reads
 

@@ -9,16 +9,16 @@ use Rattle.builtin.specs.Tables.{lm, sam, srm}
 use Rattle.builtin.proofs.Tables.{lm-obeys, lm-root, sam-obeys, sam-root, srm-obeys, srm-root}
 use mathlib.Core.List.{List, append-nil}
 use Rattle.values.specs.Values.{valuesIn, valuesFrom}
-use Rattle.encoding.specs.Calls.{filled, outputAfter}
+use Rattle.items.specs.Slices.{filled, outputAfter}
 use Rattle.items.specs.Writing.{writeAnswer}
-use Rattle.codec.proofs.Ends.{write-passed}
+use Rattle.writing.proofs.Passed.{write-passed}
 use Rattle.messages.proofs.ListTests.{list-passed, list-refused}
 use borrow.Author.Needs.{needs}
 use Rattle.messages.proofs.write_lm.Statement.{statement}
 use Rattle.messages.proofs.write_lm.Tie as tie
 use Rattle.messages.proofs.write_lm.Reads as reads
 use Rattle.messages.proofs.write_lm.Lts as lts
-use Rattle.codec.proofs.writing.write_known.Reads as write-known-reads
+use Rattle.writing.proofs.write_known.Reads as write-known-reads
 use Rattle.messages.proofs.lm_list_tested.Reads as lm-list-tested-reads
 use Rattle.values.proofs.clear_octets.Reads as clear-octets-reads
 

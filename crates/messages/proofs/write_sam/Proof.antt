@@ -9,16 +9,16 @@ use Rattle.builtin.specs.Tables.{lm, sam, srm}
 use Rattle.builtin.proofs.Tables.{lm-obeys, lm-root, sam-obeys, sam-root, srm-obeys, srm-root}
 use mathlib.Core.List.{List, append-nil}
 use Rattle.values.specs.Values.{valuesIn, valuesFrom}
-use Rattle.encoding.specs.Calls.{filled, outputAfter}
+use Rattle.items.specs.Slices.{filled, outputAfter}
 use Rattle.items.specs.Writing.{writeAnswer}
-use Rattle.codec.proofs.Ends.{write-passed}
+use Rattle.writing.proofs.Passed.{write-passed}
 use Rattle.messages.proofs.ListTests.{list-passed, list-refused}
 use borrow.Author.Needs.{needs}
 use Rattle.messages.proofs.write_sam.Statement.{statement}
 use Rattle.messages.proofs.write_sam.Tie as tie
 use Rattle.messages.proofs.write_sam.Reads as reads
 use Rattle.messages.proofs.write_sam.Lts as lts
-use Rattle.codec.proofs.writing.write_known.Reads as write-known-reads
+use Rattle.writing.proofs.write_known.Reads as write-known-reads
 
 slice-aggregate-write-known : tie.Need-slice-aggregate-write-known
 slice-aggregate-write-known c = search needs

@@ -13,9 +13,9 @@ use Rattle.bits.specs.Bits.{bitsOf}
 use Rattle.table.proofs.Obeyed.{earlier-starts, record-row}
 use Rattle.items.specs.Items.{_then_, times}
 use Rattle.encoding.specs.Rows.{items}
-use Rattle.reader.specs.Reads.{stateAt, Continues}
+use Rattle.read_steps.specs.Reads.{stateAt, Continues}
 use Rattle.parts.specs.Parts.{markedFields, fieldIf}
-use Rattle.reader.proofs.Flow.{continues-trans, continues-same, continues-end, continues-part, refused-part, reads-nothing}
+use Rattle.read_steps.proofs.Flow.{continues-trans, continues-same, continues-end, continues-part, refused-part, reads-nothing}
 use Rattle.items.proofs.Runs.{times-none, times-more}
 use Rattle.parts.proofs.Records.{fieldsFrom, fields-start, fields-end, fields-next}
 use borrow.Author.Needs.{needs}

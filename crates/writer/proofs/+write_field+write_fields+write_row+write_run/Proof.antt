@@ -17,8 +17,8 @@ use Rattle.encoding.specs.Rows.{items}
 use Rattle.parts.specs.Parts.{markedFields, fieldIf}
 use Rattle.items.proofs.Runs.{times-none, times-more}
 use Rattle.parts.proofs.Records.{fieldsFrom, fields-start, fields-end, fields-next}
-use Rattle.writer.specs.Writes.{listIn, stateAt, Continues}
-use Rattle.writer.proofs.Flow.{continues-trans, continues-same, continues-end, continues-part, refused-part, writes-nothing}
+use Rattle.write_steps.specs.Writes.{listIn, stateAt, Continues}
+use Rattle.write_steps.proofs.Flow.{continues-trans, continues-same, continues-end, continues-part, refused-part, writes-nothing}
 use borrow.Fn.Kinds.{In}
 use borrow.Fn.PlainCycle.{Measures, is, falls, and}
 use Rattle.writer.proofs.write_field.Reads as write-field

@@ -13,7 +13,7 @@ use Rattle.messages.proofs.reading.lm_message.Statement.{statement}
 use Rattle.messages.proofs.reading.lm_message.Tie as tie
 use Rattle.messages.proofs.reading.lm_message.Reads as reads
 use Rattle.messages.proofs.reading.lm_message.Lts as lts
-use Rattle.codec.proofs.reading.read_message.Reads as read-message-reads
+use Rattle.reading.proofs.read_message.Reads as read-message-reads
 use Rattle.messages.proofs.reading.lm_tested.Reads as lm-tested-reads
 
 lm-tested-requires : tie.Need-lm-tested-requires

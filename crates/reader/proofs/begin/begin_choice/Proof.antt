@@ -15,9 +15,9 @@ use Rattle.items.specs.Items.{stop, ask}
 use Rattle.encoding.specs.Rows.{items}
 use Rattle.encoding.proofs.RowItems.{items-choice}
 use Rattle.parts.proofs.Choices.{Chosen, chosen}
-use Rattle.reader.specs.Reads.{stateAt, valueOf}
-use Rattle.reader.proofs.Flow.{continues-trans, continues-same}
-use Rattle.reader.proofs.Beginnings.{Keeping, keeping, kept-allowed, first-refused, first-kept}
+use Rattle.read_steps.specs.Reads.{stateAt, valueOf}
+use Rattle.read_steps.proofs.Flow.{continues-trans, continues-same}
+use Rattle.read_steps.proofs.Keeping.{Keeping, keeping, kept-allowed, first-refused, first-kept}
 use Rattle.reader.proofs.begin.begin_choice.Statement.{statement}
 use Rattle.reader.proofs.begin.begin_choice.Tie as tie
 

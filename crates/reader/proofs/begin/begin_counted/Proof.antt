@@ -11,8 +11,8 @@ use Rattle.table.proofs.Obeyed.{counted-row}
 use Rattle.items.specs.Items.{ask, times}
 use Rattle.encoding.specs.Rows.{items}
 use Rattle.encoding.proofs.RowItems.{items-counted}
-use Rattle.reader.specs.Reads.{stateAt}
-use Rattle.reader.proofs.Beginnings.{Keeping, keeping, first-refused, first-kept}
+use Rattle.read_steps.specs.Reads.{stateAt}
+use Rattle.read_steps.proofs.Keeping.{Keeping, keeping, first-refused, first-kept}
 use Rattle.reader.proofs.begin.begin_counted.Statement.{statement}
 use Rattle.reader.proofs.begin.begin_counted.Tie as tie
 

@@ -8,7 +8,8 @@ use mir.Syntax.{w64}
 use mir.Val.{toZ, ofZ}
 use Rattle.item.specs.Code.{number}
 use Rattle.item.proofs.Naturals.{held}
-use Rattle.reader.proofs.Beginnings.{keeping, begins-one}
+use Rattle.read_steps.proofs.Keeping.{keeping}
+use Rattle.reader.proofs.Beginnings.{begins-one}
 use Rattle.reader.proofs.begin.begin_number.Statement.{statement}
 use Rattle.reader.proofs.begin.begin_number.Tie as tie
 

@@ -11,8 +11,9 @@ use Rattle.table.proofs.Obeyed.{octets-row}
 use Rattle.items.specs.Items.{ask, one, times}
 use Rattle.encoding.specs.Rows.{items}
 use Rattle.encoding.proofs.RowItems.{items-octets}
-use Rattle.reader.specs.Reads.{stateAt}
-use Rattle.reader.proofs.Beginnings.{Keeping, keeping, first-refused, first-kept, begins-reads}
+use Rattle.read_steps.specs.Reads.{stateAt}
+use Rattle.read_steps.proofs.Keeping.{Keeping, keeping, first-refused, first-kept}
+use Rattle.reader.proofs.Beginnings.{begins-reads}
 use Rattle.reader.proofs.begin.begin_octets.Statement.{statement}
 use Rattle.reader.proofs.begin.begin_octets.Tie as tie
 

@@ -11,8 +11,8 @@ use Rattle.octets.specs.Numbers.{u16}
 use Rattle.table.proofs.Obeyed.{RecordRow, record-row}
 use Rattle.encoding.specs.Rows.{items}
 use Rattle.parts.proofs.Records.{leftAfter, record-start, record-end, mask-lt, marked-lt}
-use Rattle.reader.specs.Reads.{stateAt, Continues}
-use Rattle.reader.proofs.Flow.{continues-trans, continues-same}
+use Rattle.read_steps.specs.Reads.{stateAt, Continues}
+use Rattle.read_steps.proofs.Flow.{continues-trans, continues-same}
 use Rattle.reader.proofs.Records.{marked-on, no-mark}
 use Rattle.reader.proofs.begin.begin_record.Statement.{statement}
 use Rattle.reader.proofs.begin.begin_record.Tie as tie

@@ -4,7 +4,8 @@ use mathlib.Core.Path.{refl}
 use borrow.Author.Needs.{needs}
 use denote.Ref.{now}
 use Rattle.item.specs.Code.{variable}
-use Rattle.reader.proofs.Beginnings.{keeping, begins-one}
+use Rattle.read_steps.proofs.Keeping.{keeping}
+use Rattle.reader.proofs.Beginnings.{begins-one}
 use Rattle.reader.proofs.begin.begin_variable.Statement.{statement}
 use Rattle.reader.proofs.begin.begin_variable.Tie as tie
 

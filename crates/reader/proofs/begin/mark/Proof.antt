@@ -8,8 +8,9 @@ use borrow.Author.Tests.{ne-eqb}
 use denote.Ref.{now}
 use lib.IntN.{pos}
 use Rattle.item.specs.Code.{number}
-use Rattle.reader.specs.Reads.{stateAt, countOf}
-use Rattle.reader.proofs.Beginnings.{Keeping, keeping, marks-always, marks-refused, marks-bit}
+use Rattle.read_steps.specs.Reads.{stateAt, countOf}
+use Rattle.read_steps.proofs.Keeping.{Keeping, keeping}
+use Rattle.reader.proofs.Beginnings.{marks-always, marks-refused, marks-bit}
 use Rattle.reader.proofs.begin.mark.Statement.{statement}
 use Rattle.reader.proofs.begin.mark.Tie as tie
 

@@ -18,9 +18,9 @@ use Rattle.encoding.specs.Rows.{items}
 use Rattle.encoding.proofs.RowItems.{items-choice}
 use Rattle.item.proofs.Naturals.{held}
 use Rattle.parts.proofs.Choices.{Chosen, chosen}
-use Rattle.writer.specs.Writes.{listIn, stateAt}
-use Rattle.writer.proofs.Flow.{continues-trans, continues-same}
-use Rattle.writer.proofs.Beginnings.{Putting, putting, put-allowed, first-missing, first-refused, first-put}
+use Rattle.write_steps.specs.Writes.{listIn, stateAt}
+use Rattle.write_steps.proofs.Flow.{continues-trans, continues-same}
+use Rattle.write_steps.proofs.Putting.{Putting, putting, put-allowed, first-missing, first-refused, first-put}
 use Rattle.writer.proofs.begin.begin_choice.Statement.{statement}
 use Rattle.writer.proofs.begin.begin_choice.Tie as tie
 

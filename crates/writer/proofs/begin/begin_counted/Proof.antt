@@ -14,8 +14,8 @@ use Rattle.items.specs.Items.{ask, times}
 use Rattle.encoding.specs.Rows.{items}
 use Rattle.encoding.proofs.RowItems.{items-counted}
 use Rattle.item.proofs.Naturals.{held}
-use Rattle.writer.specs.Writes.{listIn, stateAt}
-use Rattle.writer.proofs.Beginnings.{Putting, putting, first-missing, first-refused, first-put}
+use Rattle.write_steps.specs.Writes.{listIn, stateAt}
+use Rattle.write_steps.proofs.Putting.{Putting, putting, first-missing, first-refused, first-put}
 use Rattle.writer.proofs.begin.begin_counted.Statement.{statement}
 use Rattle.writer.proofs.begin.begin_counted.Tie as tie
 

@@ -11,7 +11,8 @@ use Rattle.octets.specs.Numbers.{u32, signed}
 use Rattle.item.specs.Code.{number}
 use Rattle.items.specs.Items.{stop, one}
 use Rattle.item.proofs.Naturals.{held}
-use Rattle.writer.proofs.Beginnings.{putting, first-missing, begins-one}
+use Rattle.write_steps.proofs.Putting.{putting, first-missing}
+use Rattle.writer.proofs.Beginnings.{begins-one}
 use Rattle.writer.proofs.begin.begin_number.Statement.{statement}
 use Rattle.writer.proofs.begin.begin_number.Tie as tie
 

@@ -15,8 +15,9 @@ use Rattle.items.specs.Items.{ask, one, times}
 use Rattle.encoding.specs.Rows.{items}
 use Rattle.encoding.proofs.RowItems.{items-octets}
 use Rattle.item.proofs.Naturals.{held}
-use Rattle.writer.specs.Writes.{listIn, stateAt}
-use Rattle.writer.proofs.Beginnings.{Putting, putting, first-missing, first-refused, first-put, begins-writes}
+use Rattle.write_steps.specs.Writes.{listIn, stateAt}
+use Rattle.write_steps.proofs.Putting.{Putting, putting, first-missing, first-refused, first-put}
+use Rattle.writer.proofs.Beginnings.{begins-writes}
 use Rattle.writer.proofs.begin.begin_octets.Statement.{statement}
 use Rattle.writer.proofs.begin.begin_octets.Tie as tie
 

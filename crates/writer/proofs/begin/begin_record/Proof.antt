@@ -11,8 +11,8 @@ use Rattle.octets.specs.Numbers.{u16}
 use Rattle.table.proofs.Obeyed.{RecordRow, record-row}
 use Rattle.encoding.specs.Rows.{items}
 use Rattle.parts.proofs.Records.{leftAfter, record-start, record-end, mask-lt, marked-lt}
-use Rattle.writer.specs.Writes.{listIn, stateAt, Continues}
-use Rattle.writer.proofs.Flow.{continues-trans, continues-same}
+use Rattle.write_steps.specs.Writes.{listIn, stateAt, Continues}
+use Rattle.write_steps.proofs.Flow.{continues-trans, continues-same}
 use Rattle.writer.proofs.Records.{marked-on, no-mark}
 use Rattle.writer.proofs.begin.begin_record.Statement.{statement}
 use Rattle.writer.proofs.begin.begin_record.Tie as tie

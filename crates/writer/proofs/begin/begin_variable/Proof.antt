@@ -6,7 +6,8 @@ use denote.Ref.{now}
 use Rattle.item.specs.Code.{variable}
 use Rattle.items.specs.Items.{stop, one}
 use Rattle.item.proofs.Naturals.{held}
-use Rattle.writer.proofs.Beginnings.{putting, first-missing, begins-one}
+use Rattle.write_steps.proofs.Putting.{putting, first-missing}
+use Rattle.writer.proofs.Beginnings.{begins-one}
 use Rattle.writer.proofs.begin.begin_variable.Statement.{statement}
 use Rattle.writer.proofs.begin.begin_variable.Tie as tie
 

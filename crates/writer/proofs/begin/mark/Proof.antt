@@ -11,8 +11,9 @@ use mir.Syntax.{w64}
 use mir.Val.{toZ, ofZ}
 use Rattle.item.specs.Code.{number, natural}
 use Rattle.item.proofs.Naturals.{held}
-use Rattle.writer.specs.Writes.{listIn, stateAt}
-use Rattle.writer.proofs.Beginnings.{Putting, putting, marks-always, marks-missing, marks-refused, marks-bit}
+use Rattle.write_steps.specs.Writes.{listIn, stateAt}
+use Rattle.write_steps.proofs.Putting.{Putting, putting}
+use Rattle.writer.proofs.Beginnings.{marks-always, marks-missing, marks-refused, marks-bit}
 use Rattle.writer.proofs.begin.mark.Statement.{statement}
 use Rattle.writer.proofs.begin.mark.Tie as tie
 

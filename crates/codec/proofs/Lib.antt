@@ -1,3 +1,0 @@
-pub mod Roots
-pub mod Settled
-pub mod Ends

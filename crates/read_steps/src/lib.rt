@@ -1,0 +1,155 @@
+// The steps of a reader that know no table: an item that was read is kept, octets are read singly and in runs, and the padding
+// closes a message.
+use answer::Answer;
+use answer::Refusal;
+use bits::BitPlace;
+use bits::Fetched;
+use bits::OctetSize;
+use item::Item;
+ghost use mathlib.Core.Path.{_≡_};
+ghost use Prim.Native.Nat.{_*_, _≤_};
+ghost use lib.IntN.{pos};
+ghost use lib.ListN.{length, set};
+ghost use Rattle.item.specs.Code.{Code};
+ghost use Rattle.values.specs.Values.{setValue};
+ghost use Rattle.items.specs.Items.{one, times};
+ghost use Rattle.read_steps.specs.Reads.{Reads, stateAt, keptStep, keptIn, countOf};
+ghost use Rattle.read_steps.specs.Ends.{closed, stepAnswer, keptCount};
+
+// Where a reader stands: the next bit of the message, and how many values were read.
+pub struct Cursor {
+    pub place: BitPlace,
+    pub count: usize,
+}
+
+// What reading items gives: the cursor after it, or the refusal.
+pub enum Step {
+    Past(Cursor),
+    Refused(Refusal),
+}
+
+// An item that was read is kept, where there is room for its value.
+pub fn kept(item: Item, values: &mut [i64], packed: &mut [u8], room: usize, cursor: Cursor) -> Step
+    ensures { λ r. ⌜ (r ≡ keptStep item room cursor) × (now (values .exit) ≡ keptIn set item room (cursor .count) (now (values .entry))) × (now (packed .exit) ≡ keptIn setValue item room (cursor .count) (now (packed .entry))) ⌝ }
+{
+    let place = cursor.place.0;
+    match item {
+        Item::Bad(number) => Step::Refused(Refusal { number, place }),
+        Item::Value(value, next) => {
+            let at = cursor.count;
+            if room <= at {
+                return Step::Refused(Refusal {
+                    number: Refusal::NO_ROOM,
+                    place,
+                });
+            }
+            values::keep(values, packed, at, value);
+            Step::Past(Cursor {
+                place: next,
+                count: at + 1,
+            })
+        }
+    }
+}
+
+// The value of an item as a count.
+pub fn count_of(item: Item) -> usize
+    ensures { λ r. ⌜ r ≡ countOf item ⌝ }
+{
+    match item {
+        Item::Bad(_) => 0,
+        Item::Value(value, _) => item::count_of(value),
+    }
+}
+
+// So many octets, each a value, one by one.
+fn read_singly(
+    count: usize,
+    message: &[u8],
+    values: &mut [i64],
+    packed: &mut [u8],
+    room: usize,
+    cursor: Cursor,
+) -> Step
+    requires { ⌜ length (now message) ≤ 65535 ⌝ }
+    ensures { λ r. ⌜ Reads (now (message .entry)) room (times count (one (Code.number (pos 0) 255))) (stateAt cursor (now (values .entry)) (now (packed .entry))) (now (values .exit)) (now (packed .exit)) r ⌝ }
+{
+    let mut done = 0;
+    let mut here = cursor;
+    while done < count {
+        let item = read_item::octet(message, here.place);
+        let step = kept(item, values, packed, room, here);
+        let Step::Past(next) = step else {
+            return step;
+        };
+        here = next;
+        done += 1;
+    }
+    Step::Past(here)
+}
+
+// So many octets, each a value: those that are there, with room for their values, at once. What is left is refused at its first.
+pub fn read_octets(
+    count: usize,
+    message: &[u8],
+    values: &mut [i64],
+    packed: &mut [u8],
+    room: usize,
+    cursor: Cursor,
+) -> Step
+    requires { ⌜ length (now message) ≤ 65535 ⌝ }
+    ensures { λ r. ⌜ Reads (now (message .entry)) room (times count (one (Code.number (pos 0) 255))) (stateAt cursor (now (values .entry)) (now (packed .entry))) (now (values .exit)) (now (packed .exit)) r ⌝ }
+{
+    let free = runs::fitting(room, cursor.count, count);
+    let end = BitPlace::after(OctetSize(message.len()));
+    let there = OctetSize::between(cursor.place, end);
+    let ready = runs::fitting(there.0, 0, free);
+    runs::read(message, cursor.place, ready, values, packed, cursor.count);
+    let next = Cursor {
+        place: BitPlace::further(cursor.place, OctetSize(ready)),
+        count: cursor.count + ready,
+    };
+    read_singly(count - ready, message, values, packed, room, next)
+}
+
+// The close of a message whose root ends at a cursor: its last octet ends the message, and zero bits fill it.
+pub fn close(message: &[u8], end: Cursor) -> Answer
+    requires { ⌜ (length (now message) ≤ 65535) × (end .place .0 ≤ 8 * length (now message)) ⌝ }
+    ensures { λ r. ⌜ r ≡ closed (now (message .entry)) end ⌝ }
+{
+    let place = end.place;
+    let after = place.0;
+    let size = OctetSize::holding(place);
+    if message.len() != size.0 {
+        return Answer::refused(Refusal::NOT_PADDING, after);
+    }
+    let all = BitPlace::after(OctetSize(message.len()));
+    let padding = access::fetch(message, place, (all.0 - after) as u32);
+    let Fetched::Bits(number, _) = padding else {
+        return Answer::refused(Refusal::NOT_PADDING, after);
+    };
+    if number != 0 {
+        return Answer::refused(Refusal::NOT_PADDING, after);
+    }
+    Answer::accepted(end.count, place, OctetSize(0))
+}
+
+// A step of the root that was refused, as an answer.
+pub fn refused(step: Step) -> Answer
+    ensures { λ r. ⌜ r ≡ stepAnswer step ⌝ }
+{
+    match step {
+        Step::Past(_) => Answer::accepted(0, BitPlace(0), OctetSize(0)),
+        Step::Refused(refusal) => Answer::Refused(refusal),
+    }
+}
+
+// How many values an answer says were kept.
+pub fn kept_count(answer: Answer) -> usize
+    ensures { λ r. ⌜ r ≡ keptCount answer ⌝ }
+{
+    match answer {
+        Answer::Accepted(counts) => counts.values,
+        Answer::Refused(_) => 0,
+    }
+}

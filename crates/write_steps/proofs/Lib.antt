@@ -1,0 +1,4 @@
+pub mod Flow
+pub mod Putting
+pub mod Octets
+pub mod Ends
