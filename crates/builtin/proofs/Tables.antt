@@ -4,9 +4,8 @@ use Prim.Native.Nat.{ℕ}
 use mathlib.Core.Path.{_≡_, refl, ap, subst}
 use mathlib.Core.List.{List}
 use Rattle.octets.specs.Numbers.{u16, u32, signed, u16s, there}
-use Rattle.row.specs.Rows.{Row, rowOf, rowAt, rowLength}
+use Rattle.row.specs.Rows.{Row, rowOf, rowAt, rowLength, within}
 use Rattle.rules.specs.Rules.{knownKind, flagsInBounds, numbersInBounds, branches, references, someBranch, hasBranch, Obeys}
-use Rattle.row.specs.Rows.{within}
 use Rattle.table.specs.Verdict.{passed, verdict, checked, obeys}
 use Rattle.rules.specs.Tests.{rowTest, rowDepth}
 use Rattle.table.specs.Root.{root, rootFrom, IsRoot}

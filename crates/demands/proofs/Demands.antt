@@ -6,7 +6,7 @@ use Rattle.answer.proofs.Numbers.{inverse}
 use Rattle.item.proofs.CodeLaws.{item-laws}
 use Rattle.item.proofs.Ranges.{item-ranges}
 use Rattle.item.proofs.Widths.{item-widths}
-use Rattle.table.proofs.Depths.{depths}
+use Rattle.rules.proofs.Depths.{depths}
 use Rattle.encoding.proofs.Demand2.{demand2}
 use Rattle.items.proofs.Filled.{filled-up}
 use Rattle.encoding.proofs.Demand3.{demand3}

@@ -16,7 +16,7 @@ use Rattle.item.specs.Code.{Code}
 use Rattle.item.specs.Laws.{ItemLaws}
 use Rattle.item.specs.Ranges.{ItemRanges}
 use Rattle.item.specs.Widths.{ItemWidths}
-use Rattle.table.specs.Depths.{Depths}
+use Rattle.rules.specs.Depths.{Depths}
 use Rattle.encoding.specs.Demand2.{Demand2}
 use Rattle.items.specs.Filled.{FilledUp}
 use Rattle.encoding.specs.Demand3.{AreOctets, Demand3}

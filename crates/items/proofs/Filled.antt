@@ -4,10 +4,15 @@ use Prim.Native.Nat.{ℕ, _+_, _-_, _≤_, _<_}
 use mathlib.Core.Path.{_≡_, ap, _∙_}
 use mathlib.Core.List.{List}
 use native.Mathlib.Omega.{arith}
+use lib.IntN.{pos}
 use lib.ListN.{length, getD, replicate, length-append, length-replicate, getD-replicate}
 use lib.Seq.{take-append-seam, getD-append-add}
 use Rattle.items.specs.Slices.{filled}
-use Rattle.items.specs.Filled.{FilledUp}
+use Rattle.items.specs.Filled.{FilledUp, ZerosAfter}
+use Rattle.items.specs.Reading.{readValues}
+use Rattle.items.specs.Writing.{writeOctets}
+use Rattle.values.specs.Values.{listOctets}
+use Rattle.values.proofs.Stores.{length-listOctets}
 
 module _ {A : Type 0} (z past : A) (n : ℕ) (xs : List A) where
   zero-at : (i : ℕ) → length xs ≤ i → i < n → getD (filled z n xs) i past ≡ z
@@ -22,4 +27,11 @@ filled-up = record {
   front = λ z n xs. take-append-seam xs (replicate (n - length xs) z);
   rest = zero-at;
   whole = λ z n xs h. rw (length-append, length-replicate) (omega arith);
+}
+
+pub zeros-after : ZerosAfter
+zeros-after = record {
+  values = λ n x past. zero-at (pos 0) past n (readValues x);
+  packed = λ n x past i h. zero-at 0 past n (listOctets (readValues x)) i (rw (length-listOctets (readValues x)) (omega arith));
+  output = λ n x past. zero-at 0 past n (writeOctets x);
 }

@@ -11,24 +11,13 @@ use lib.ListN.{length, getD, drop, replicate}
 use Rattle.octets.specs.Numbers.{u16, u32, signed, u16s, there}
 use Rattle.bits.specs.Bits.{bitsOf, width, unpack}
 use Rattle.row.specs.Offsets.{earlier}
-use Rattle.row.specs.Rows.{Row, Number, Variable, FixedRun, CountedRun, Record, Choice, rowOf, rowAt}
-use Rattle.row.specs.Rows.{Octets as OctetsRow}
+use Rattle.row.specs.Rows.{Row, Number, Variable, FixedRun, CountedRun, Record, Choice, rowOf, rowAt, Octets as OctetsRow}
 use Rattle.items.specs.Items.{Items, stop}
 use Rattle.encoding.specs.Rows.{presence, fields, rowItems, items, asks}
 use Rattle.encoding.proofs.RowItems.{items-row}
 use Rattle.builtin.specs.Tables.{lm}
 use Rattle.builtin.proofs.Tables.{lm-root}
-use Rattle.lm.specs.Clause5.{lengthBits, addressBits, octetsValues, Octets, elementValues, elementBits, ElementWithin}
-use Rattle.lm.specs.Clause5.{present, flag, extensionsValues, extensionsBits, ExtensionsWithin}
-use Rattle.lm.specs.Clause5.{NullNetworking, nullNetworkingValues, nullNetworkingBits, NullNetworkingWithin}
-use Rattle.lm.specs.Clause5.{NHopForwarding, nHopForwardingValues, nHopForwardingBits, NHopForwardingWithin}
-use Rattle.lm.specs.Clause5.{OriginalHeader, originalNull, originalNHop, originalHeaderValues, originalHeaderBits, OriginalHeaderWithin}
-use Rattle.lm.specs.Clause5.{InternalForwarding, internalForwardingValues, internalForwardingBits, InternalForwardingWithin}
-use Rattle.lm.specs.Clause5.{NHeader, nullNetworking, internalForwarding, nHopForwarding, nHeaderValues, nHeaderBits, NHeaderWithin}
-use Rattle.lm.specs.Clause5.{Dissemination, disseminationValues, disseminationBits, DisseminationWithin}
-use Rattle.lm.specs.Clause5.{Session, sessionValues, sessionBits, SessionWithin}
-use Rattle.lm.specs.Clause5.{THeader, dissemination, session, tHeaderValues, tHeaderBits, THeaderWithin}
-use Rattle.lm.specs.Clause5.{layoutBits, valuesOf, WellFormed}
+use Rattle.lm.specs.Clause5.{lengthBits, addressBits, octetsValues, Octets, elementValues, elementBits, ElementWithin, present, flag, extensionsValues, extensionsBits, ExtensionsWithin, NullNetworking, nullNetworkingValues, nullNetworkingBits, NullNetworkingWithin, NHopForwarding, nHopForwardingValues, nHopForwardingBits, NHopForwardingWithin, OriginalHeader, originalNull, originalNHop, originalHeaderValues, originalHeaderBits, OriginalHeaderWithin, InternalForwarding, internalForwardingValues, internalForwardingBits, InternalForwardingWithin, NHeader, nullNetworking, internalForwarding, nHopForwarding, nHeaderValues, nHeaderBits, NHeaderWithin, Dissemination, disseminationValues, disseminationBits, DisseminationWithin, Session, sessionValues, sessionBits, SessionWithin, THeader, dissemination, session, tHeaderValues, tHeaderBits, THeaderWithin, layoutBits, valuesOf, WellFormed}
 use Rattle.lm.proofs.Spelling.{Spells, spells-as}
 use Rattle.lm.proofs.Pieces.{spells-number, spells-address, spells-run, spells-octets, spells-octet-run, spells-end, spells-field, spells-extensions, spells-last, spells-flag, spells-branch, reserved, Chosen, spells-choice}
 

@@ -1,6 +1,6 @@
 // LM, SAM and SRM by name. Their tables are proved to pass, so no check runs. An LM has two tests of its own before every item
 // (document 01: 10 on the version, 11 on the subtype).
-pub mod reading;
+pub mod either;
 
 use answer::Answer;
 use answer::Refusal;
@@ -22,7 +22,7 @@ pub fn read_lm(message: &[u8], values: &mut [i64]) -> Answer
 {
     let mut none = [0u8; 0];
     let room = values.len();
-    let answer = reading::lm_message(message, values, &mut none, room);
+    let answer = either::lm_message(message, values, &mut none, room);
     let kept = read_steps::kept_count(answer);
     values::clear_values(values, kept);
     answer

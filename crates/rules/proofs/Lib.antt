@@ -1,3 +1,4 @@
+pub mod Depths
 pub mod ByKind
 pub mod Steps
 pub mod Loops

@@ -1,3 +1,4 @@
 pub mod Rules
+pub mod Depths
 pub mod Tests
 pub mod Steps

@@ -17,7 +17,8 @@ use Rattle.row.specs.Rows.{Row, Number, Variable, FixedRun, CountedRun, Record,
 use Rattle.rules.specs.Rules.{Reach, here, on, knownKind, numbersInBounds, references, hasBranch, deepest, depth, All, Earlier, RowObeys, Obeys}
 use Rattle.rules.specs.Tests.{depthIn, allPassed, rowDepth, rowTest}
 use Rattle.table.specs.Verdict.{scan, obeys, passed, broken, verdict}
-use Rattle.row.proofs.Offsets.{earlier-is, byOffset-is}
+use Rattle.row.proofs.Offsets.{earlier-is}
+use Rattle.rules.proofs.Depths.{depth-row}
 
 -- ── the scan decides the rules ──
 
@@ -41,10 +42,6 @@ apart here here h n = absurd (n refl)
 apart here (on l r) h n = reach-le r
 apart (on l r) here h n = absurd (n (omega (arith, reach-le r)))
 apart (on l r) (on l′ r′) h n = apart r r′ h n
-
-pub depth-row : (t : List ℕ) (o : ℕ) → depth t o ≡ suc (deepest (earlier 0 o (depth t)) (references (rowAt t o)))
-unfolding depth
-depth-row t o = byOffset-is 0 (λ o g. suc (deepest g (references (rowAt t o)))) o
 
 depth-pos : (t : List ℕ) (o : ℕ) → depth t o ≢ 0
 depth-pos t o h = omega (arith, depth-row t o)

@@ -1,5 +1,4 @@
 pub mod Decides
-pub mod Depths
 pub mod Obeyed
 pub mod LastRow
 pub mod Walk

@@ -1,3 +1,2 @@
-pub mod Depths
 pub mod Verdict
 pub mod Root

@@ -89,7 +89,7 @@ pub fn user_data_place(message: &[u8]) -> Found
 {
     let mut values = [0i64; 0];
     let mut packed = [0u8; 0];
-    let answer = messages::reading::lm_message(message, &mut values, &mut packed, ROOM);
+    let answer = messages::either::lm_message(message, &mut values, &mut packed, ROOM);
     let Answer::Accepted(counts) = answer else {
         return refused(answer);
     };

@@ -1,14 +1,10 @@
 -- `messages::lm_list_tested` meets its contract. Each test as it is made.
 -- Assumes nothing.
-use Prim.Native.Nat.{ℕ, _+_, _-_, _*_, _/_, _≤_, _<_}
-use mathlib.Core.Path.{_≡_, refl, sym, ap, _∙_}
-use native.Mathlib.Omega.{arith}
+use Prim.Native.Nat.{_-_}
+use mathlib.Core.Path.{_∙_}
 use denote.Ref.{now}
-use lib.ListN.{length}
-use Rattle.builtin.specs.Tables.{lm, sam, srm}
-use Rattle.builtin.proofs.Tables.{lm-obeys, lm-root, sam-obeys, sam-root, srm-obeys, srm-root}
-use lib.IntN.{ℤ, pos}
 use lib.ListN.{getD}
+use lib.IntN.{pos}
 use Rattle.messages.proofs.ListTests.{version-three, version-other, subtype-negative, subtype-high, subtype-fine, list-short, list-version, list-subtype, list-fine}
 use borrow.Author.Needs.{needs}
 use Rattle.messages.proofs.lm_list_tested.Statement.{statement}

@@ -1,12 +1,10 @@
 -- `messages::read_lm` meets its contract. The outcome kept, and zeros after it.
 -- Assumes nothing.
-use Prim.Native.Nat.{ℕ, _+_, _-_, _*_, _/_, _≤_, _<_}
-use mathlib.Core.Path.{_≡_, refl, sym, ap, _∙_}
+use Prim.Native.Nat.{_-_}
+use mathlib.Core.Path.{_≡_, ap, _∙_}
 use native.Mathlib.Omega.{arith}
 use denote.Ref.{now}
 use lib.ListN.{length}
-use Rattle.builtin.specs.Tables.{lm, sam, srm}
-use Rattle.builtin.proofs.Tables.{lm-obeys, lm-root, sam-obeys, sam-root, srm-obeys, srm-root}
 use Rattle.items.specs.Reading.{readValues}
 use Rattle.read_steps.specs.Ends.{keptCount}
 use Rattle.read_steps.proofs.Settled.{count-is, settled-values}
@@ -18,7 +16,7 @@ use Rattle.messages.proofs.read_lm.Tie as tie
 use Rattle.messages.proofs.read_lm.Reads as reads
 use Rattle.messages.proofs.read_lm.Lts as lts
 use Rattle.read_steps.proofs.kept_count.Reads as kept-count-reads
-use Rattle.messages.proofs.reading.lm_message.Reads as lm-message-reads
+use Rattle.messages.proofs.either.lm_message.Reads as lm-message-reads
 use Rattle.values.proofs.clear_values.Reads as clear-values-reads
 
 slice-aggregate-lm-message : tie.Need-slice-aggregate-lm-message

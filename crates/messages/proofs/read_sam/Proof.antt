@@ -1,12 +1,9 @@
 -- `messages::read_sam` meets its contract. The table of SAM passes.
 -- Assumes nothing.
-use Prim.Native.Nat.{ℕ, _+_, _-_, _*_, _/_, _≤_, _<_}
-use mathlib.Core.Path.{_≡_, refl, sym, ap, _∙_}
-use native.Mathlib.Omega.{arith}
-use denote.Ref.{now}
-use lib.ListN.{length}
-use Rattle.builtin.specs.Tables.{lm, sam, srm}
-use Rattle.builtin.proofs.Tables.{lm-obeys, lm-root, sam-obeys, sam-root, srm-obeys, srm-root}
+use Prim.Native.Nat.{_-_}
+use mathlib.Core.Path.{sym}
+use Rattle.builtin.specs.Tables.{sam}
+use Rattle.builtin.proofs.Tables.{sam-obeys, sam-root}
 use borrow.Author.Needs.{needs}
 use Rattle.messages.proofs.read_sam.Statement.{statement}
 use Rattle.messages.proofs.read_sam.Tie as tie

@@ -1,12 +1,9 @@
 -- `messages::read_srm` meets its contract. The table of SRM passes.
 -- Assumes nothing.
-use Prim.Native.Nat.{ℕ, _+_, _-_, _*_, _/_, _≤_, _<_}
-use mathlib.Core.Path.{_≡_, refl, sym, ap, _∙_}
-use native.Mathlib.Omega.{arith}
-use denote.Ref.{now}
-use lib.ListN.{length}
-use Rattle.builtin.specs.Tables.{lm, sam, srm}
-use Rattle.builtin.proofs.Tables.{lm-obeys, lm-root, sam-obeys, sam-root, srm-obeys, srm-root}
+use Prim.Native.Nat.{_-_}
+use mathlib.Core.Path.{sym}
+use Rattle.builtin.specs.Tables.{srm}
+use Rattle.builtin.proofs.Tables.{srm-obeys, srm-root}
 use borrow.Author.Needs.{needs}
 use Rattle.messages.proofs.read_srm.Statement.{statement}
 use Rattle.messages.proofs.read_srm.Tie as tie

@@ -1,12 +1,11 @@
 -- `messages::write_lm` meets its contract. What the tests refused; or the table's outcome.
 -- Assumes nothing.
-use Prim.Native.Nat.{ℕ, _+_, _-_, _*_, _/_, _≤_, _<_}
-use mathlib.Core.Path.{_≡_, refl, sym, ap, _∙_}
-use native.Mathlib.Omega.{arith}
+use Prim.Native.Nat.{ℕ, _-_}
+use mathlib.Core.Path.{sym, ap, _∙_}
 use denote.Ref.{now}
 use lib.ListN.{length}
-use Rattle.builtin.specs.Tables.{lm, sam, srm}
-use Rattle.builtin.proofs.Tables.{lm-obeys, lm-root, sam-obeys, sam-root, srm-obeys, srm-root}
+use Rattle.builtin.specs.Tables.{lm}
+use Rattle.builtin.proofs.Tables.{lm-obeys, lm-root}
 use mathlib.Core.List.{List, append-nil}
 use Rattle.values.specs.Values.{valuesIn, valuesFrom}
 use Rattle.items.specs.Slices.{filled, outputAfter}

@@ -1,18 +1,11 @@
 -- `messages::write_sam` meets its contract. The table of SAM passes.
 -- Assumes nothing.
-use Prim.Native.Nat.{ℕ, _+_, _-_, _*_, _/_, _≤_, _<_}
-use mathlib.Core.Path.{_≡_, refl, sym, ap, _∙_}
-use native.Mathlib.Omega.{arith}
-use denote.Ref.{now}
-use lib.ListN.{length}
-use Rattle.builtin.specs.Tables.{lm, sam, srm}
-use Rattle.builtin.proofs.Tables.{lm-obeys, lm-root, sam-obeys, sam-root, srm-obeys, srm-root}
-use mathlib.Core.List.{List, append-nil}
+use Prim.Native.Nat.{_-_}
+use mathlib.Core.Path.{sym}
+use Rattle.builtin.specs.Tables.{sam}
+use Rattle.builtin.proofs.Tables.{sam-obeys, sam-root}
+use mathlib.Core.List.{append-nil}
 use Rattle.values.specs.Values.{valuesIn, valuesFrom}
-use Rattle.items.specs.Slices.{filled, outputAfter}
-use Rattle.items.specs.Writing.{writeAnswer}
-use Rattle.writing.proofs.Passed.{write-passed}
-use Rattle.messages.proofs.ListTests.{list-passed, list-refused}
 use borrow.Author.Needs.{needs}
 use Rattle.messages.proofs.write_sam.Statement.{statement}
 use Rattle.messages.proofs.write_sam.Tie as tie
