@@ -2,6 +2,7 @@
 use Prim.Native.Nat.{ℕ}
 use mathlib.Core.Path.{_≡_}
 use Rattle.answer.specs.declared.Answer.{Answer}
+use Rattle.answer.specs.declared.Refusal.{Refusal}
 use Rattle.answer.specs.declared.Answer.the-variants.{Accepted, Refused}
 
 -- the numbers
@@ -52,10 +53,14 @@ pub record Outcome : Type 0 where
   pub bits : ℕ
   pub octets : ℕ
 
+-- a refusal of a number at a place: the one that every promise of a refusal cites, so that a refusal travels whole
+abbrev pub refusalAt : ℕ → ℕ → Refusal
+refusalAt number place = record { number = number; place = place }
+
 -- the case for each outcome: a refusal's number and place; the values, bits and octets counted. Every promise of an answer uses
 -- these two
 abbrev pub refused : ℕ → ℕ → Answer
-refused number place = Refused (record { number = number; place = place })
+refused number place = Refused (refusalAt number place)
 
 abbrev pub accepted : ℕ → ℕ → ℕ → Answer
 accepted values bits octets = Accepted (record { values = values; bits = record { 0 = bits }; octets = record { 0 = octets } })

@@ -2,7 +2,7 @@
 use bits::BitPlace;
 use bits::OctetSize;
 ghost use mathlib.Core.Path.{_≡_};
-ghost use Rattle.answer.specs.Numbers.{accepted, refused};
+ghost use Rattle.answer.specs.Numbers.{refusalAt, accepted, refused};
 
 // What an accepted call counts. Reading tells the values and the bits of the root, which is the place after it; writing
 // tells the octets; a check tells nothing, so that each count is 0.
@@ -50,13 +50,20 @@ impl Refusal {
     pub const WRONG_VALUE: u32 = 12;
     // A message above 65,535 octets.
     pub const TOO_LONG: u32 = 13;
+
+    // A refusal of a number at a place. No other function makes one.
+    pub fn new(number: u32, place: usize) -> Refusal
+        ensures { λ r. ⌜ r ≡ refusalAt number place ⌝ }
+    {
+        Refusal { number, place }
+    }
 }
 
 impl Answer {
     pub fn refused(number: u32, place: usize) -> Answer
         ensures { λ r. ⌜ r ≡ refused number place ⌝ }
     {
-        Answer::Refused(Refusal { number, place })
+        Answer::Refused(Refusal::new(number, place))
     }
 
     pub fn accepted(values: usize, bits: BitPlace, octets: OctetSize) -> Answer

@@ -63,7 +63,7 @@ fn variable(message: &[u8]) {
             let put = write_item::variable(&mut output, BitPlace(0), value);
             print_value(value, &output, put);
         }
-        Item::Bad(number) => print_refusal(number),
+        Item::Bad(refusal) => print_refusal(refusal.number),
     }
 }
 
@@ -79,7 +79,7 @@ fn length(message: &[u8]) {
             let put = write_item::length(&mut output, BitPlace(0), 0, 16383, value);
             print_value(value, &output, put);
         }
-        Item::Bad(number) => print_refusal(number),
+        Item::Bad(refusal) => print_refusal(refusal.number),
     }
 }
 

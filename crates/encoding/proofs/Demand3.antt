@@ -31,7 +31,7 @@ use Rattle.items.proofs.Written.{encode-complete}
 -- the check's answer is accepted exactly for the verdict passed
 checked-passed : (v : Verdict) → (checked v ≡ accepted 0 0 0) ↔ (v ≡ passed)
 checked-passed passed = (λ e. refl, λ e. refl)
-checked-passed (broken n p) = (λ e. let z : _≡_ {A = ℕ} 0 1 = cc in absurd (omega arith), λ e. let z : _≡_ {A = ℕ} 0 1 = cc in absurd (omega arith))
+checked-passed (broken refusal) = (λ e. let z : _≡_ {A = ℕ} 0 1 = cc in absurd (omega arith), λ e. let z : _≡_ {A = ℕ} 0 1 = cc in absurd (omega arith))
 
 -- what stands for a message is what decoding accepts
 pub stands-decode : (p : Items) (s : List ℕ) (room : ℕ) (vs : List ℤ) → Stands p s room vs → decode p s room ≡ accept vs (length (encodingBits p vs))
@@ -45,7 +45,7 @@ decode-stands p s room vs n m e =
 -- an outcome whose answer is accepted
 pub accepted-outcome : (x : ReadOutcome) (counts : Counts) → readAnswer x ≡ Accepted counts → (vs : List ℤ) × (n : ℕ) × (x ≡ accept vs n)
 accepted-outcome (accept vs n) counts e = (vs, n, refl)
-accepted-outcome (refuse n p) counts e = let z : _≡_ {A = ℕ} 0 1 = cc in absurd (omega arith)
+accepted-outcome (refuse refusal) counts e = let z : _≡_ {A = ℕ} 0 1 = cc in absurd (omega arith)
 
 -- the list that an accepted reading gives: so many values of the slice
 pub given : (room : ℕ) (x : ReadOutcome) (c : Counts) → readAnswer x ≡ Accepted c → (vs : List ℤ) (n : ℕ) → x ≡ accept vs n → take (c .values) (valuesAfter room x) ≡ vs

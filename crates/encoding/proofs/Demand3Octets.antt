@@ -9,6 +9,7 @@ use lib.Dec.{leb}
 use lib.IntN.{ℤ}
 use lib.ListN.{length, take, replicate, length-append, length-replicate, length-take}
 use lib.Seq.{take-append-seam, take-append-add, take-at}
+use Rattle.answer.specs.Numbers.{refusalAt}
 use Rattle.answer.specs.declared.Counts.{Counts}
 use Rattle.answer.specs.declared.Answer.the-variants.{Accepted}
 use Rattle.values.specs.Values.{listOctets, valuesIn}
@@ -40,10 +41,10 @@ outcome-fits : (t s : List ℕ) (room : ℕ) → length (readValues (readOutcome
 unfolding readOutcome
 outcome-fits t s room = on (verdict t) (leb (length s) 65535) (decode (asks t) s room) refl
   where
-    on : (v : Verdict) (b : Bool) (x : ReadOutcome) → decode (asks t) s room ≡ x → length (readValues (onPassed v (cond b x (refuse 13 0)))) ≤ room
-    on (broken n p) b x q = omega arith
+    on : (v : Verdict) (b : Bool) (x : ReadOutcome) → decode (asks t) s room ≡ x → length (readValues (onPassed v (cond b x (refuse (refusalAt 13 0))))) ≤ room
+    on (broken refusal) b x q = omega arith
     on passed false x q = omega arith
-    on passed true (refuse n p) q = omega arith
+    on passed true (refuse refusal) q = omega arith
     on passed true (accept vs n) q = decode-fits (asks t) s room vs n q
 
 -- the octets of a list at the front of a slice, and so many more

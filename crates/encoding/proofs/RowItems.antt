@@ -100,4 +100,4 @@ dec-bit false r = decodeItem-complete (number (pos 0) 1) (pos 0) r refl
 
 pub after-after : (us vs : List ℤ) (x : Walk) → after us (after vs x) ≡ after (us ++ vs) x
 after-after us vs (walked ws at) = rw append-assoc
-after-after us vs (blocked n at) = refl
+after-after us vs (blocked refusal) = refl

@@ -10,7 +10,7 @@ use Rattle.encoding.specs.Rows.{asks}
 -- a table's own refusal first
 abbrev pub onPassed : Verdict → WriteOutcome → WriteOutcome
 onPassed passed x = x
-onPassed (broken number place) x = unwritten number place
+onPassed (broken refusal) x = unwritten refusal
 
 -- writing under a lent table: 1, then the list
 unfoldable pub writeOutcome : List ℕ → List ℤ → ℕ → WriteOutcome

@@ -2,6 +2,7 @@
 use mathlib.Core.Path.{_≡_, refl}
 use mathlib.Core.List.{[], _∷_}
 use lib.IntN.{pos}
+use Rattle.answer.specs.Numbers.{refusalAt}
 use Rattle.items.specs.Reading.{accept, refuse}
 use Rattle.lines.specs.Text.{decimalWithin, decimal, signed, listed, numberLine, acceptedLine, refusedLine}
 use Rattle.frames.specs.Frames.{outcomeLine, lastLine}
@@ -14,7 +15,7 @@ unfolding decimalWithin decimal signed listed acceptedLine
 first-line = refl
 
 -- no 2 at 8
-second-line : outcomeLine (refuse 2 8) ≡ 110 ∷ 111 ∷ 32 ∷ 50 ∷ 32 ∷ 97 ∷ 116 ∷ 32 ∷ 56 ∷ 10 ∷ []
+second-line : outcomeLine (refuse (refusalAt 2 8)) ≡ 110 ∷ 111 ∷ 32 ∷ 50 ∷ 32 ∷ 97 ∷ 116 ∷ 32 ∷ 56 ∷ 10 ∷ []
 unfolding decimalWithin decimal numberLine refusedLine
 second-line = refl
 

@@ -13,7 +13,7 @@ use Rattle.frames.specs.Frames.{outcomeLine}
 
 answer-line : (o : ReadOutcome) (room : ℕ) → answerLine (readAnswer o) (valuesAfter room o) ≡ outcomeLine o
 answer-line (accept vs bits) room = ap (acceptedLine (length vs)) (take-append-seam vs _)
-answer-line (refuse number place) room = refl
+answer-line (refuse refusal) room = refl
 
 -- the line of an answer is the line of the outcome that it tells
 pub line-told : {before after : List ℕ} {at end : ℕ} {answer : Answer} {values : List ℤ} (o : ReadOutcome) (room : ℕ)

@@ -28,7 +28,7 @@ messageOf s size = take (size - 4) (drop 4 s)
 -- `ok N: v v v` or `no R at P`
 abbrev pub outcomeLine : ReadOutcome → List ℕ
 outcomeLine (accept vs bits) = acceptedLine (length vs) vs
-outcomeLine (refuse number place) = refusedLine number place
+outcomeLine (refuse refusal) = refusedLine refusal
 
 -- `no kind K`
 abbrev pub kindLine : ℕ → List ℕ

@@ -8,7 +8,7 @@ use lib.ListN.{length, drop}
 use Rattle.octets.specs.Numbers.{u16s, there}
 use Rattle.bits.specs.Bits.{unpack}
 use Rattle.bits.specs.Access.{placeAt, overwritten}
-use Rattle.answer.specs.Numbers.{noRoom, wrongValue}
+use Rattle.answer.specs.Numbers.{noRoom, wrongValue, refusalAt}
 use Rattle.item.specs.Code.{Code, Got, got, bad, decodeItem, allows, valueBits}
 use Rattle.item.specs.declared.Item.{Item}
 use Rattle.item.specs.declared.Item.the-variants.{Value, Bad}
@@ -19,10 +19,10 @@ use Rattle.item.specs.declared.Put.the-variants.{Next, Unfit}
 abbrev pub branchesAt : List ℕ → ℕ → ℕ → List Bool
 branchesAt t o m = map there (u16s t o 2 m)
 
--- a reading at p as the code answers it: the value and the place after its bits, or the refusal's number
+-- a reading at p as the code answers it: the value and the place after its bits, or the refusal at p
 abbrev pub itemOf : Code → ℕ → Got ℤ → Item
 itemOf c p (got v r) = Value v (placeAt (p + length (valueBits c v)))
-itemOf c p (bad n) = Bad n
+itemOf c p (bad n) = Bad (refusalAt n p)
 
 -- reading an item at p of a message
 abbrev pub itemAt : Code → List ℕ → ℕ → Item

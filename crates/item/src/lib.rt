@@ -1,5 +1,6 @@
 // One value's bits: a number, a variable number, a length, the index of a choice (document 01, "Bits and values"). What reading
 // and writing such an item share; reading is in read_item, writing in write_item.
+use answer::Refusal;
 use bits::BitPlace;
 ghost use mathlib.Core.Path.{_≡_};
 ghost use mathlib.Core.Bool.{false};
@@ -10,13 +11,14 @@ ghost use Rattle.item.specs.Code.{base, natural};
 ghost use Rattle.item.specs.Answers.{branchesAt};
 ghost use Rattle.item.specs.Steps.{leadingWorth};
 
-// What reading an item gives: its value and the place after it, or the number of the refusal.
+// What reading an item gives: its value and the place after it, or the refusal.
 pub enum Item {
     Value(i64, BitPlace),
-    Bad(u32),
+    Bad(Refusal),
 }
 
-// What writing an item gives: the place after it, or the number of the refusal.
+// What writing an item gives: the place after it, or the number of the refusal, whose place, the index of its value, the caller
+// knows.
 pub enum Put {
     Next(BitPlace),
     Unfit(u32),

@@ -11,6 +11,7 @@ use native.Mathlib.Nat.{zero-add}
 use lib.Dec.{eqb}
 use lib.IntN.{ℤ}
 use lib.ListN.{length, getD, replicate, length-append, length-replicate}
+use Rattle.answer.specs.Numbers.{refusalAt}
 use Rattle.bits.specs.Bits.{unpack, pack}
 use Rattle.bits.proofs.Bits.{length-unpack, length-pack, unpack-pack, pack-unpack}
 use Rattle.items.specs.Items.{Items, Allows, encodingBits}
@@ -56,7 +57,7 @@ pub record Accepted (p : Items) (s : List ℕ) (room : ℕ) (vs : List ℤ) (n :
   pub octets : encoding p vs ≡ s
   pub taken : n ≡ length (encodingBits p vs)
 
-cond-inv : (t : Bool) (x : List ℤ) (n m : ℕ) {y : List ℤ} {k : ℕ} → cond t (accept x n) (refuse 9 m) ≡ accept y k → (t ≡ true) × (x ≡ y) × (n ≡ k)
+cond-inv : (t : Bool) (x : List ℤ) (n m : ℕ) {y : List ℤ} {k : ℕ} → cond t (accept x n) (refuse (refusalAt 9 m)) ≡ accept y k → (t ≡ true) × (x ≡ y) × (n ≡ k)
 cond-inv true x n m e = (refl, cc, cc)
 cond-inv false x n m e = (cc, cc, cc)
 
@@ -66,12 +67,12 @@ decode-fits p [] room vs n e = let z : _≡_ {A = ℕ} 0 1 = cc in absurd (omega
 decode-fits p (o ∷ os) room vs n e = go (readItems p (unpack (o ∷ os)) room 0) refl e
   where
     go : (x : Reading) → readItems p (unpack (o ∷ os)) room 0 ≡ x → closeRead (length (o ∷ os)) x ≡ accept vs n → length vs ≤ room
-    go (stuck m at) q e = let z : _≡_ {A = ℕ} 0 1 = cc in absurd (omega arith)
+    go (stuck refusal) q e = let z : _≡_ {A = ℕ} 0 1 = cc in absurd (omega arith)
     go (done us at r) q e = rw (← (cond-inv (eqb (length (o ∷ os)) (size at) && allZero r) us at at e .1)) (read-sound p (unpack (o ∷ os)) room 0 us at r q .fits)
 
 module _ (p : Items) (s : List ℕ) (room : ℕ) (bytes : (i : ℕ) → getD s i 0 < 256) (vs : List ℤ) (n : ℕ) where
   closeRead-sound : (x : Reading) → readItems p (unpack s) room 0 ≡ x → closeRead (length s) x ≡ accept vs n → Accepted p s room vs n
-  closeRead-sound (stuck m at) q e = let z : _≡_ {A = ℕ} 0 1 = cc in absurd (omega arith)
+  closeRead-sound (stuck refusal) q e = let z : _≡_ {A = ℕ} 0 1 = cc in absurd (omega arith)
   closeRead-sound (done ws at r) q e =
       let x = read-sound p (unpack s) room 0 ws at r q in
       let c = cond-inv (eqb (length s) (size at) && allZero r) ws at at e in

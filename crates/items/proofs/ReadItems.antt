@@ -38,7 +38,7 @@ pub record ReadSound (p : Items) (b : List Bool) (room at : ℕ) (vs : List ℤ)
 -- what was read behind a list
 prepended : (us : List ℤ) (x : Reading) (vs : List ℤ) (n : ℕ) (r : List Bool) → prepend us x ≡ done vs n r → (ws : List ℤ) × (x ≡ done ws n r) × (us ++ ws ≡ vs)
 prepended us (done ws m s) vs n r e = (ws, cc, cc)
-prepended us (stuck m at) vs n r e = ([], cc, cc)
+prepended us (stuck refusal) vs n r e = ([], cc, cc)
 
 module _ (c : Code) (k : ℤ → Items) (b : List Bool) (at : ℕ)
     (ih : (v : ℤ) (b : List Bool) (room at : ℕ) (vs : List ℤ) (n : ℕ) (r : List Bool) → readItems (k v) b room at ≡ done vs n r → ReadSound (k v) b room at vs n r) where
@@ -77,19 +77,19 @@ items-unique p vs ws r s hv hw e =
 -- reading one after the other
 abbrev pub bind : ℕ → Reading → (List Bool → ℕ → ℕ → Reading) → Reading
 bind room (done vs at b) f = prepend vs (f b (room - length vs) at)
-bind room (stuck n at) f = stuck n at
+bind room (stuck refusal) f = stuck refusal
 
 prepend-prepend : (us vs : List ℤ) (x : Reading) → prepend us (prepend vs x) ≡ prepend (us ++ vs) x
 prepend-prepend us vs (done ws n b) = rw append-assoc
-prepend-prepend us vs (stuck n at) = refl
+prepend-prepend us vs (stuck refusal) = refl
 
 prepend-nil : (x : Reading) → prepend [] x ≡ x
 prepend-nil (done vs n b) = refl
-prepend-nil (stuck n at) = refl
+prepend-nil (stuck refusal) = refl
 
 bind-prepend : (v : ℤ) (room : ℕ) (x : Reading) (f : List Bool → ℕ → ℕ → Reading) → bind (suc room) (prepend (v ∷ []) x) f ≡ prepend (v ∷ []) (bind room x f)
 bind-prepend v room (done vs at b) f = rw (prepend-prepend (v ∷ []) vs (f b (room - length vs) at), suc-sub-suc)
-bind-prepend v room (stuck n at) f = refl
+bind-prepend v room (stuck refusal) f = refl
 
 pub read-then : (p q : Items) (b : List Bool) (room at : ℕ) → readItems (p then q) b room at ≡ bind room (readItems p b room at) (readItems q)
 read-then stop q b room at = rw (prepend-nil, sub-zero)

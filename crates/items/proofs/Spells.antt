@@ -12,6 +12,7 @@ use lib.IntN.{ℤ, pos}
 use lib.ListN.{length, getD, drop, length-append}
 use lib.Seq.{drop-cons}
 use borrow.Author.Tests.{lt-ltb, le-ltb, ne-eqb}
+use Rattle.answer.specs.Numbers.{refusalAt}
 use Rattle.item.specs.Code.{Code, allows, valueBits}
 use Rattle.items.specs.Items.{Items, stop, ask, _then_}
 use Rattle.items.specs.Writing.{Writing, spelt, halted, behind, writeItems, closeWrite, encode}
@@ -37,7 +38,7 @@ spell-stop vs room i =
     ap (spelled []) e
 
 -- a value that is missing
-pub spell-missing : (c : Code) (k : ℤ → Items) (vs : List ℤ) (room i : ℕ) → length vs ≤ i → spell (ask c k) vs room i ≡ barred 12 i
+pub spell-missing : (c : Code) (k : ℤ → Items) (vs : List ℤ) (room i : ℕ) → length vs ≤ i → spell (ask c k) vs room i ≡ barred (refusalAt 12 i)
 unfolding spell
 spell-missing c k vs room i h = rw (drop-past vs i h)
 
@@ -46,11 +47,11 @@ module _ (c : Code) (k : ℤ → Items) (vs : List ℤ) (room i : ℕ) (v : ℤ)
   here : drop i vs ≡ v ∷ drop (suc i) vs
   here = drop-cons vs i (pos 0) inside ∙ ap (_∷ drop (suc i) vs) at
 
-  pub spell-wrong : allows c v ≡ false → spell (ask c k) vs room i ≡ barred 12 i
+  pub spell-wrong : allows c v ≡ false → spell (ask c k) vs room i ≡ barred (refusalAt 12 i)
   unfolding spell
   spell-wrong h = rw (here, h)
 
-  pub spell-full : allows c v ≡ true → leb (length (valueBits c v)) room ≡ false → spell (ask c k) vs room i ≡ barred 8 i
+  pub spell-full : allows c v ≡ true → leb (length (valueBits c v)) room ≡ false → spell (ask c k) vs room i ≡ barred (refusalAt 8 i)
   unfolding spell
   spell-full h l = rw (here, h, l)
 
@@ -61,7 +62,7 @@ module _ (c : Code) (k : ℤ → Items) (vs : List ℤ) (room i : ℕ) (v : ℤ)
     where
       go : (w : Writing) → writeItems (k v) (drop (suc i) vs) (room - length (valueBits c v)) (suc i) ≡ w
           → counted i (suc (length (drop (suc i) vs))) (behind (valueBits c v) w) ≡ following (valueBits c v) (counted (suc i) (length (drop (suc i) vs)) w)
-      go (halted n j) e = refl
+      go (halted refusal) e = refl
       go (spelt b left) e =
           let m = left-le (k v) (drop (suc i) vs) (room - length (valueBits c v)) (suc i) b left e in
           let n : i + (suc (length (drop (suc i) vs)) - length left) ≡ suc i + (length (drop (suc i) vs) - length left) = omega arith in
@@ -70,28 +71,28 @@ module _ (c : Code) (k : ℤ → Items) (vs : List ℤ) (room i : ℕ) (v : ℤ)
 -- what is spelled fits the room
 abbrev pub Within : ℕ → Spell → Type 0
 Within room (spelled b i) = length b ≤ room
-Within room (barred number i) = Unit {0}
+Within room (barred refusal) = Unit {0}
 
 pub spell-within : (p : Items) (vs : List ℤ) (room i : ℕ) → Within room (spell p vs room i)
 unfolding spell
 spell-within p vs room i = go (writeItems p (drop i vs) room i) refl
   where
     go : (w : Writing) → writeItems p (drop i vs) room i ≡ w → Within room (counted i (length (drop i vs)) w)
-    go (halted n j) e = tt
+    go (halted refusal) e = tt
     go (spelt b left) e = write-sound p (drop i vs) room i b left e .fits
 
 -- ── one after another ──
 
 following-none : (s : Spell) → following [] s ≡ s
 following-none (spelled b i) = refl
-following-none (barred number i) = refl
+following-none (barred refusal) = refl
 
 following-following : (a b : List Bool) (s : Spell) → following a (following b s) ≡ following (a ++ b) s
 following-following a b (spelled x i) = rw append-assoc
-following-following a b (barred number i) = refl
+following-following a b (barred refusal) = refl
 
 following-next : (a : List Bool) (room : ℕ) (s : Spell) (f : ℕ → ℕ → Spell) → following a (next (room - length a) s f) ≡ next room (following a s) f
-following-next a room (barred number i) f = refl
+following-next a room (barred refusal) f = refl
 following-next a room (spelled b i) f =
     let e : room - length a - length b ≡ room - length (a ++ b) = omega (arith, length-append a b) in
     following-following a b (f (room - length a - length b) i) ∙ ap (λ r. following (a ++ b) (f r i)) e
@@ -130,7 +131,7 @@ unfolding spell
 encode-spell p vs octets = go octets (writeItems p vs (8 * min octets 65535) 0) refl
   where
     go : (n : ℕ) (w : Writing) → writeItems p vs (8 * min octets 65535) 0 ≡ w → closeWrite (length vs) n w ≡ closeSpell (length vs) n (counted 0 (length vs) w)
-    go n (halted number i) e = refl
+    go n (halted refusal) e = refl
     go n (spelt b (v ∷ left)) e =
         let some : length vs - length (v ∷ left) < length vs = omega (arith, left-le p vs (8 * min octets 65535) 0 b (v ∷ left) e) in
         rw (zero-add, lt-ltb (length vs - length (v ∷ left)) (length vs) some)

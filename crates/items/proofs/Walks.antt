@@ -7,6 +7,7 @@ use mathlib.Core.List.{List, [], _∷_}
 use lib.IntN.{ℤ}
 use lib.ListN.{length, drop}
 use lib.Seq.{drop-at, drop-drop}
+use Rattle.answer.specs.Numbers.{refusalAt}
 use Rattle.item.specs.Code.{Code, got, bad, valueBits, decodeItem}
 use Rattle.item.proofs.CodeLaws.{decodeItem-sound}
 use Rattle.items.specs.Items.{Items, stop, ask, _then_, encodingBits}
@@ -16,18 +17,18 @@ use Rattle.items.proofs.ReadItems.{bind, read-then, read-sound}
 
 forget-prepend : (us : List ℤ) (x : Reading) → forget (prepend us x) ≡ after us (forget x)
 forget-prepend us (done vs at b) = refl
-forget-prepend us (stuck n at) = refl
+forget-prepend us (stuck refusal) = refl
 
 pub walk-stop : (b : List Bool) (room at : ℕ) → walk stop b room at ≡ walked [] at
 unfolding walk
 walk-stop b room at = refl
 
 module _ (c : Code) (k : ℤ → Items) (b : List Bool) (at : ℕ) where
-  pub walk-bad : (room n : ℕ) → decodeItem c (drop at b) ≡ bad n → walk (ask c k) b room at ≡ blocked n at
+  pub walk-bad : (room n : ℕ) → decodeItem c (drop at b) ≡ bad n → walk (ask c k) b room at ≡ blocked (refusalAt n at)
   unfolding walk
   walk-bad room n e = rw e
 
-  pub walk-full : {v : ℤ} {r : List Bool} → decodeItem c (drop at b) ≡ got v r → walk (ask c k) b 0 at ≡ blocked 8 at
+  pub walk-full : {v : ℤ} {r : List Bool} → decodeItem c (drop at b) ≡ got v r → walk (ask c k) b 0 at ≡ blocked (refusalAt 8 at)
   unfolding walk
   walk-full e = rw e
 
@@ -45,7 +46,7 @@ unfolding walk
 walk-then p q b room at = ap forget (read-then p q (drop at b) room at) ∙ go (readItems p (drop at b) room at) refl
   where
     go : (x : Reading) → readItems p (drop at b) room at ≡ x → forget (bind room x (readItems q)) ≡ next room (forget x) (walk q b)
-    go (stuck n at′) e = refl
+    go (stuck refusal) e = refl
     go (done vs at′ r) e =
         let s = read-sound p (drop at b) room at vs at′ r e in
         let d : drop at′ b ≡ r =

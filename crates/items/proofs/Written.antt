@@ -10,6 +10,8 @@ use lib.Dec.{leb}
 use lib.IntN.{ℤ}
 use lib.ListN.{length, getD, length-append}
 use borrow.Author.Tests.{leb-true, le-leb}
+use Rattle.answer.specs.Numbers.{refusalAt}
+use Rattle.answer.specs.declared.Refusal.{Refusal}
 use Rattle.bits.proofs.Bits.{length-pack}
 use Rattle.item.specs.Code.{allows, valueBits}
 use Rattle.items.specs.Items.{Items, stop, ask, Allows, encodingBits}
@@ -33,13 +35,13 @@ pub record WriteSound (p : Items) (vs : List ℤ) (room : ℕ) (b : List Bool) (
   pub spelt : b ≡ encodingBits p values
   pub fits : length b ≤ room
 
-unless-inv : (t : Bool) (n i : ℕ) (w : Writing) {b : List Bool} {vs : List ℤ} → unless t n i w ≡ spelt b vs → (t ≡ true) × (w ≡ spelt b vs)
-unless-inv true n i w e = (refl, e)
-unless-inv false n i w e = (cc, cc)
+unless-inv : (t : Bool) (refusal : Refusal) (w : Writing) {b : List Bool} {vs : List ℤ} → unless t refusal w ≡ spelt b vs → (t ≡ true) × (w ≡ spelt b vs)
+unless-inv true refusal w e = (refl, e)
+unless-inv false refusal w e = (cc, cc)
 
 behind-inv : (a : List Bool) (w : Writing) {b : List Bool} {vs : List ℤ} → behind a w ≡ spelt b vs → (r : List Bool) × (w ≡ spelt r vs) × (b ≡ a ++ r)
 behind-inv a (spelt r ws) e = (r, cc, cc)
-behind-inv a (halted n i) e = ([], cc, cc)
+behind-inv a (halted refusal) e = ([], cc, cc)
 
 pub write-sound : (p : Items) (vs : List ℤ) (room i : ℕ) (b : List Bool) (ws : List ℤ) → writeItems p vs room i ≡ spelt b ws → WriteSound p vs room b ws
 write-sound stop vs room i b ws e =
@@ -47,8 +49,8 @@ write-sound stop vs room i b ws e =
     record { values = []; split = cc; allowed = tt; spelt = sym eb; fits = rw (← eb) (omega arith) }
 write-sound (ask c k) [] room i b ws e = let z : _≡_ {A = ℕ} 0 1 = cc in absurd (omega arith)
 write-sound (ask c k) (v ∷ vs) room i b ws e =
-    let x = unless-inv (allows c v) 12 i _ e in
-    let y = unless-inv (leb (length (valueBits c v)) room) 8 i _ (x .1) in
+    let x = unless-inv (allows c v) (refusalAt 12 i) _ e in
+    let y = unless-inv (leb (length (valueBits c v)) room) (refusalAt 8 i) _ (x .1) in
     let z = behind-inv (valueBits c v) _ (y .1) in
     let w = write-sound (k v) vs (room - length (valueBits c v)) (suc i) (z .0) ws (z .1) in
     record {
@@ -82,7 +84,7 @@ pub record Written (p : Items) (vs : List ℤ) (cap : ℕ) (s : List ℕ) : Type
 
 module _ (p : Items) (vs : List ℤ) (s : List ℕ) where
   closeWrite-sound : (cap : ℕ) (w : Writing) → writeItems p vs (8 * min cap 65535) 0 ≡ w → closeWrite (length vs) cap w ≡ written s → Written p vs cap s
-  closeWrite-sound cap (halted m i) q e = let z : _≡_ {A = ℕ} 0 1 = cc in absurd (omega arith)
+  closeWrite-sound cap (halted refusal) q e = let z : _≡_ {A = ℕ} 0 1 = cc in absurd (omega arith)
   closeWrite-sound cap (spelt b (v ∷ us)) q e = let z : _≡_ {A = ℕ} 0 1 = cc in absurd (omega arith)
   closeWrite-sound zero (spelt b []) q e = let z : _≡_ {A = ℕ} 0 1 = cc in absurd (omega arith)
   closeWrite-sound (suc cap) (spelt b []) q e =

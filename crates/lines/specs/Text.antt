@@ -6,6 +6,7 @@ use mathlib.Core.List.{List, [], _∷_, _++_}
 use lib.Dec.{ltb}
 use lib.IntN.{ℤ, pos, negsuc}
 use lib.ListN.{length, take}
+use Rattle.answer.specs.declared.Refusal.{Refusal}
 use Rattle.answer.specs.declared.Answer.{Answer}
 use Rattle.answer.specs.declared.Answer.the-variants.{Accepted, Refused}
 
@@ -43,10 +44,10 @@ unfoldable pub acceptedLine : ℕ → List ℤ → List ℕ
 acceptedLine n vs = (111 ∷ 107 ∷ 32 ∷ []) ++ (decimal n ++ ((58 ∷ []) ++ (listed vs ++ (10 ∷ []))))
 
 -- `no R at P`
-unfoldable pub refusedLine : ℕ → ℕ → List ℕ
-refusedLine r p = (110 ∷ 111 ∷ 32 ∷ []) ++ (decimal r ++ numberLine (32 ∷ 97 ∷ 116 ∷ 32 ∷ []) p)
+unfoldable pub refusedLine : Refusal → List ℕ
+refusedLine r = (110 ∷ 111 ∷ 32 ∷ []) ++ (decimal (r .number) ++ numberLine (32 ∷ 97 ∷ 116 ∷ 32 ∷ []) (r .place))
 
 -- the line of an answer, and of what the value slice then holds
 abbrev pub answerLine : Answer → List ℤ → List ℕ
 answerLine (Accepted c) vs = acceptedLine (c .values) (take (c .values) vs)
-answerLine (Refused r) vs = refusedLine (r .number) (r .place)
+answerLine (Refused r) vs = refusedLine r

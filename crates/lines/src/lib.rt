@@ -2,6 +2,7 @@
 // answer. Every function gives the index after its text; the octets before it stay, and those behind it mean nothing.
 // A number takes at most 20 octets, and a value with its space and sign 22.
 use answer::Answer;
+use answer::Refusal;
 ghost use Prim.Native.Nat.{_+_, _*_, _≤_};
 ghost use mathlib.Core.List.{_∷_};
 ghost use mathlib.Core.Path.{_≡_};
@@ -111,14 +112,14 @@ fn put_accepted(out: &mut [u8], at: usize, count: usize, values: &[i64]) -> usiz
 }
 
 // The line of a refusal: its number and its place.
-fn put_refusal(out: &mut [u8], at: usize, number: u32, place: usize) -> usize
+fn put_refusal(out: &mut [u8], at: usize, refusal: Refusal) -> usize
     requires { ⌜ at + 48 ≤ length (now out) ⌝ }
-    ensures { λ r. ⌜ Appended (now (out .entry)) at (refusedLine number place) (now (out .exit)) r ⌝ }
+    ensures { λ r. ⌜ Appended (now (out .entry)) at (refusedLine refusal) (now (out .exit)) r ⌝ }
     ensures { λ r. ⌜ r ≤ at + 48 ⌝ }
 {
     let first = put_text(out, at, b"no ");
-    let middle = put_number(out, first, number as u64);
-    put_line(out, middle, b" at ", place as u64)
+    let middle = put_number(out, first, refusal.number as u64);
+    put_line(out, middle, b" at ", refusal.place as u64)
 }
 
 // The line of an answer to reading into a slice of values.
@@ -129,6 +130,6 @@ pub fn put_answer(out: &mut [u8], at: usize, answer: Answer, values: &[i64]) -> 
 {
     match answer {
         Answer::Accepted(counts) => put_accepted(out, at, counts.values, values),
-        Answer::Refused(refusal) => put_refusal(out, at, refusal.number, refusal.place),
+        Answer::Refused(refusal) => put_refusal(out, at, refusal),
     }
 }

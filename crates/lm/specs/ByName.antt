@@ -9,7 +9,8 @@ use lib.Dec.{leb, eqb}
 use lib.IntN.{ℤ, pos}
 use lib.ListN.{length, getD, take, drop}
 use Rattle.bits.specs.Bits.{numberOf, unpack}
-use Rattle.answer.specs.Numbers.{messageEnds, wrongVersion, wrongSubtype, wrongValue, tooLong}
+use Rattle.answer.specs.Numbers.{messageEnds, wrongVersion, wrongSubtype, wrongValue, tooLong, refusalAt}
+use Rattle.answer.specs.declared.Refusal.{Refusal}
 use Rattle.answer.specs.declared.Answer.{Answer}
 use Rattle.item.specs.Code.{ofNatural}
 use Rattle.encoding.specs.Rows.{asks}
@@ -27,33 +28,33 @@ lmVersion s = numberOf (take 3 (drop 5 (unpack s)))
 unfoldable pub lmSubtype : List ℕ → ℕ
 lmSubtype s = numberOf (take 4 (unpack s))
 
--- an outcome, if a test holds; else a refusal's number and place
-abbrev pub readIf : Bool → ℕ → ℕ → ReadOutcome → ReadOutcome
-readIf true number place x = x
-readIf false number place x = refuse number place
+-- an outcome, if a test holds; else a refusal
+abbrev pub readIf : Bool → Refusal → ReadOutcome → ReadOutcome
+readIf true refusal x = x
+readIf false refusal x = refuse refusal
 
 -- 13, then 2 on an empty message, then 10 and 11, then the items
 unfoldable pub readLmOutcome : List ℕ → ℕ → ReadOutcome
 readLmOutcome s room =
-    readIf (leb (length s) 65535) tooLong 0
-    (readIf (leb 1 (length s)) messageEnds 0
-    (readIf (eqb (lmVersion s) 3) wrongVersion 5
-    (readIf (leb (lmSubtype s) 2) wrongSubtype 0
+    readIf (leb (length s) 65535) (refusalAt tooLong 0)
+    (readIf (leb 1 (length s)) (refusalAt messageEnds 0)
+    (readIf (eqb (lmVersion s) 3) (refusalAt wrongVersion 5)
+    (readIf (leb (lmSubtype s) 2) (refusalAt wrongSubtype 0)
     (decode (asks lm) s room))))
 
 -- ── writing ──
 
--- an outcome, if a test holds; else a refusal's number and the index of its value
-abbrev pub writeIf : Bool → ℕ → ℕ → WriteOutcome → WriteOutcome
-writeIf true number i x = x
-writeIf false number i x = unwritten number i
+-- an outcome, if a test holds; else a refusal, whose place is the index of its value
+abbrev pub writeIf : Bool → Refusal → WriteOutcome → WriteOutcome
+writeIf true refusal x = x
+writeIf false refusal x = unwritten refusal
 
 -- 12 on a list shorter than 3, 10 on the third value, 11 on the first, then the values in order
 unfoldable pub writeLmOutcome : List ℤ → ℕ → WriteOutcome
 writeLmOutcome vs cap =
-    writeIf (leb 3 (length vs)) wrongValue (length vs)
-    (writeIf (ofNatural (λ n. eqb n 3) (getD vs 2 (pos 0))) wrongVersion 2
-    (writeIf (ofNatural (λ n. leb n 2) (getD vs 0 (pos 0))) wrongSubtype 0
+    writeIf (leb 3 (length vs)) (refusalAt wrongValue (length vs))
+    (writeIf (ofNatural (λ n. eqb n 3) (getD vs 2 (pos 0))) (refusalAt wrongVersion 2)
+    (writeIf (ofNatural (λ n. leb n 2) (getD vs 0 (pos 0))) (refusalAt wrongSubtype 0)
     (encode (asks lm) vs cap)))
 
 -- ── as the calls answer it ──

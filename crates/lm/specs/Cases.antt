@@ -4,6 +4,7 @@ use Prim.Native.Nat.{ℕ}
 use mathlib.Core.Path.{_≡_}
 use mathlib.Core.List.{List, [], _∷_, map}
 use lib.IntN.{pos, negsuc}
+use Rattle.answer.specs.Numbers.{refusalAt}
 use Rattle.items.specs.Reading.{ReadOutcome, accept, refuse}
 use Rattle.encoding.specs.Reading.{readOutcome}
 use Rattle.lm.specs.ByName.{readLmOutcome}
@@ -46,17 +47,17 @@ cases =
     ∷ record { asked = anLm (0x0b ∷ 0x01 ∷ 0x0f ∷ 0x01 ∷ 0xac ∷ 0x00 ∷ 0x00 ∷ 0x00 ∷ []); gives = accept (pos 0 ∷ pos 1 ∷ pos 3 ∷ pos 1 ∷ pos 15 ∷ pos 1 ∷ pos 172 ∷ pos 0 ∷ pos 0 ∷ pos 0 ∷ pos 0 ∷ []) 64 }
     -- P7
     ∷ record { asked = under upTo200 (0xc8 ∷ []); gives = accept (pos 200 ∷ []) 8 }
-    ∷ record { asked = under upTo200 (0xc9 ∷ []); gives = refuse 3 0 }
+    ∷ record { asked = under upTo200 (0xc9 ∷ []); gives = refuse (refusalAt 3 0) }
     -- P8, -128 being negsuc 127
     ∷ record { asked = under signedOctet (0x00 ∷ []); gives = accept (negsuc 127 ∷ []) 8 }
     ∷ record { asked = under signedOctet (0xff ∷ []); gives = accept (pos 127 ∷ []) 8 }
     -- P9
     ∷ record { asked = under onlyFive (0x00 ∷ []); gives = accept (pos 5 ∷ []) 0 }
-    ∷ record { asked = under onlyFive (0x01 ∷ []); gives = refuse 9 0 }
-    ∷ record { asked = under onlyFive []; gives = refuse 2 0 }
+    ∷ record { asked = under onlyFive (0x01 ∷ []); gives = refuse (refusalAt 9 0) }
+    ∷ record { asked = under onlyFive []; gives = refuse (refusalAt 2 0) }
     -- P10
-    ∷ record { asked = anLm (0x04 ∷ []); gives = refuse 10 5 }
-    ∷ record { asked = anLm (0x33 ∷ []); gives = refuse 11 0 }
+    ∷ record { asked = anLm (0x04 ∷ []); gives = refuse (refusalAt 10 5) }
+    ∷ record { asked = anLm (0x33 ∷ []); gives = refuse (refusalAt 11 0) }
     ∷ []
 
 -- the definitions give every case its outcome

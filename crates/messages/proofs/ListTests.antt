@@ -13,7 +13,7 @@ use mir.Syntax.{w64}
 use mir.Val.{toZ, ofZ, hbits}
 use mir.Facts.{toZ-ofZ}
 use borrow.Author.Tests.{le-leb, lt-leb, ltb-true, ltb-false, ne-eqb}
-use Rattle.answer.specs.Numbers.{accepted, refused}
+use Rattle.answer.specs.Numbers.{refusalAt, accepted, refused}
 use Rattle.answer.specs.declared.Answer.the-variants.{Accepted, Refused}
 use Rattle.answer.specs.declared.Counts.{Counts}
 use Rattle.answer.specs.declared.Refusal.{Refusal}
@@ -83,9 +83,9 @@ module _ (vs : List ℤ) where
   pub list-passed : (cap : ℕ) (counts : Counts) → lmListTested vs ≡ Accepted counts → writeLmOutcome vs cap ≡ encode (asks lm) vs cap
   unfolding lmListTested writeLmOutcome
   list-passed cap counts e =
-      let a = answerIf-accepted (leb 3 (length vs)) 12 (length vs) _ counts e in
-      let b = answerIf-accepted (ofNatural (λ n. eqb n 3) (getD vs 2 (pos 0))) 10 2 _ counts (a .1) in
-      let c = answerIf-accepted (ofNatural (λ n. leb n 2) (getD vs 0 (pos 0))) 11 0 _ counts (b .1) in
+      let a = answerIf-accepted (leb 3 (length vs)) (refusalAt 12 (length vs)) _ counts e in
+      let b = answerIf-accepted (ofNatural (λ n. eqb n 3) (getD vs 2 (pos 0))) (refusalAt 10 2) _ counts (a .1) in
+      let c = answerIf-accepted (ofNatural (λ n. leb n 2) (getD vs 0 (pos 0))) (refusalAt 11 0) _ counts (b .1) in
       rw (a .0, b .0, c .0)
 
   -- what one of them refused has that refusal
@@ -94,9 +94,9 @@ module _ (vs : List ℤ) where
   unfolding lmListTested writeLmOutcome
   list-refused cap refusal e = go (leb 3 (length vs)) (ofNatural (λ n. eqb n 3) (getD vs 2 (pos 0))) (ofNatural (λ n. leb n 2) (getD vs 0 (pos 0))) e
     where
-      go : (a b c : Bool) → answerIf a 12 (length vs) (answerIf b 10 2 (answerIf c 11 0 (accepted 0 0 0))) ≡ Refused refusal
-          → (Refused refusal ≡ writeAnswer (writeIf a 12 (length vs) (writeIf b 10 2 (writeIf c 11 0 (encode (asks lm) vs cap)))))
-          × (writeOctets (writeIf a 12 (length vs) (writeIf b 10 2 (writeIf c 11 0 (encode (asks lm) vs cap)))) ≡ [])
+      go : (a b c : Bool) → answerIf a (refusalAt 12 (length vs)) (answerIf b (refusalAt 10 2) (answerIf c (refusalAt 11 0) (accepted 0 0 0))) ≡ Refused refusal
+          → (Refused refusal ≡ writeAnswer (writeIf a (refusalAt 12 (length vs)) (writeIf b (refusalAt 10 2) (writeIf c (refusalAt 11 0) (encode (asks lm) vs cap)))))
+          × (writeOctets (writeIf a (refusalAt 12 (length vs)) (writeIf b (refusalAt 10 2) (writeIf c (refusalAt 11 0) (encode (asks lm) vs cap)))) ≡ [])
       go false b c e = (sym e, refl)
       go true false c e = (sym e, refl)
       go true true false e = (sym e, refl)

@@ -9,8 +9,8 @@ use native.Mathlib.Omega.{arith}
 use lib.Dec.{leb, eqb}
 use lib.ListN.{length, take, drop}
 use borrow.Author.Tests.{leb-true, le-leb, lt-leb, eq-eqb, ne-eqb}
+use Rattle.answer.specs.Numbers.{refusalAt, accepted, refused}
 use Rattle.bits.specs.Bits.{numberOf, unpack}
-use Rattle.answer.specs.Numbers.{accepted, refused}
 use Rattle.answer.specs.declared.Answer.{Answer}
 use Rattle.answer.specs.declared.Answer.the-variants.{Accepted, Refused}
 use Rattle.answer.specs.declared.Counts.{Counts}
@@ -50,9 +50,9 @@ module _ (s : List ℕ) where
 
 -- ── what they leave ──
 
-pub answerIf-accepted : (t : Bool) (n p : ℕ) (x : Answer) (counts : Counts) → answerIf t n p x ≡ Accepted counts → (t ≡ true) × (x ≡ Accepted counts)
-answerIf-accepted true n p x counts e = (refl, e)
-answerIf-accepted false n p x counts e = (cc, cc)
+pub answerIf-accepted : (t : Bool) (refusal : Refusal) (x : Answer) (counts : Counts) → answerIf t refusal x ≡ Accepted counts → (t ≡ true) × (x ≡ Accepted counts)
+answerIf-accepted true refusal x counts e = (refl, e)
+answerIf-accepted false refusal x counts e = (cc, cc)
 
 -- what passed them is at most 65,535 octets and not empty, and has the outcome of the table
 pub record Fine (s : List ℕ) (room : ℕ) : Type 0 where
@@ -63,10 +63,10 @@ pub record Fine (s : List ℕ) (room : ℕ) : Type 0 where
 pub fine : (s : List ℕ) (room : ℕ) (counts : Counts) → lmTested s ≡ Accepted counts → Fine s room
 unfolding lmTested readLmOutcome
 fine s room counts e =
-    let a = answerIf-accepted (leb (length s) 65535) 13 0 _ counts e in
-    let b = answerIf-accepted (leb 1 (length s)) 2 0 _ counts (a .1) in
-    let c = answerIf-accepted (eqb (lmVersion s) 3) 10 5 _ counts (b .1) in
-    let d = answerIf-accepted (leb (lmSubtype s) 2) 11 0 _ counts (c .1) in
+    let a = answerIf-accepted (leb (length s) 65535) (refusalAt 13 0) _ counts e in
+    let b = answerIf-accepted (leb 1 (length s)) (refusalAt 2 0) _ counts (a .1) in
+    let c = answerIf-accepted (eqb (lmVersion s) 3) (refusalAt 10 5) _ counts (b .1) in
+    let d = answerIf-accepted (leb (lmSubtype s) 2) (refusalAt 11 0) _ counts (c .1) in
     record {
       most = leb-true (length s) 65535 (a .0);
       some = leb-true 1 (length s) (b .0);
@@ -74,19 +74,19 @@ fine s room counts e =
     }
 
 -- what one of them refused has that refusal
-pub unfit : (s : List ℕ) (room : ℕ) (refusal : Refusal) → lmTested s ≡ Refused refusal → readLmOutcome s room ≡ refuse (refusal .number) (refusal .place)
+pub unfit : (s : List ℕ) (room : ℕ) (refusal : Refusal) → lmTested s ≡ Refused refusal → readLmOutcome s room ≡ refuse refusal
 unfolding lmTested readLmOutcome
 unfit s room refusal e = go (leb (length s) 65535) (leb 1 (length s)) (eqb (lmVersion s) 3) (leb (lmSubtype s) 2) e
   where
-    same : (n p : ℕ) → refused n p ≡ Refused refusal → refuse n p ≡ refuse (refusal .number) (refusal .place)
-    same n p e = let r : record { number = n; place = p } ≡ refusal = cc in ap (λ (x : Refusal). refuse (x .number) (x .place)) r
+    same : (by : Refusal) → Refused by ≡ Refused refusal → refuse by ≡ refuse refusal
+    same by e = let r : by ≡ refusal = cc in ap refuse r
 
-    go : (a b c d : Bool) → answerIf a 13 0 (answerIf b 2 0 (answerIf c 10 5 (answerIf d 11 0 (accepted 0 0 0)))) ≡ Refused refusal
-        → readIf a 13 0 (readIf b 2 0 (readIf c 10 5 (readIf d 11 0 (decode (asks lm) s room)))) ≡ refuse (refusal .number) (refusal .place)
-    go false b c d e = same 13 0 e
-    go true false c d e = same 2 0 e
-    go true true false d e = same 10 5 e
-    go true true true false e = same 11 0 e
+    go : (a b c d : Bool) → answerIf a (refusalAt 13 0) (answerIf b (refusalAt 2 0) (answerIf c (refusalAt 10 5) (answerIf d (refusalAt 11 0) (accepted 0 0 0)))) ≡ Refused refusal
+        → readIf a (refusalAt 13 0) (readIf b (refusalAt 2 0) (readIf c (refusalAt 10 5) (readIf d (refusalAt 11 0) (decode (asks lm) s room)))) ≡ refuse refusal
+    go false b c d e = same (refusalAt 13 0) e
+    go true false c d e = same (refusalAt 2 0) e
+    go true true false d e = same (refusalAt 10 5) e
+    go true true true false e = same (refusalAt 11 0) e
     go true true true true e = let z : _≡_ {A = ℕ} 0 1 = cc in absurd (omega arith)
 
 -- an LM's values fit the room
@@ -95,10 +95,10 @@ unfolding readLmOutcome
 lm-fits s room = go (leb (length s) 65535) (leb 1 (length s)) (eqb (lmVersion s) 3) (leb (lmSubtype s) 2)
   where
     whole : (x : ReadOutcome) → decode (asks lm) s room ≡ x → length (readValues x) ≤ room
-    whole (refuse n p) q = omega arith
+    whole (refuse refusal) q = omega arith
     whole (accept vs n) q = decode-fits (asks lm) s room vs n q
 
-    go : (a b c d : Bool) → length (readValues (readIf a 13 0 (readIf b 2 0 (readIf c 10 5 (readIf d 11 0 (decode (asks lm) s room)))))) ≤ room
+    go : (a b c d : Bool) → length (readValues (readIf a (refusalAt 13 0) (readIf b (refusalAt 2 0) (readIf c (refusalAt 10 5) (readIf d (refusalAt 11 0) (decode (asks lm) s room)))))) ≤ room
     go false b c d = omega arith
     go true false c d = omega arith
     go true true false d = omega arith

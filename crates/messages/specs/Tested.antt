@@ -5,27 +5,29 @@ use mathlib.Core.List.{List}
 use lib.Dec.{leb, eqb}
 use lib.IntN.{ℤ, pos}
 use lib.ListN.{length, getD}
-use Rattle.answer.specs.Numbers.{messageEnds, wrongVersion, wrongSubtype, wrongValue, tooLong, accepted, refused}
+use Rattle.answer.specs.Numbers.{messageEnds, wrongVersion, wrongSubtype, wrongValue, tooLong, refusalAt, accepted}
 use Rattle.answer.specs.declared.Answer.{Answer}
+use Rattle.answer.specs.declared.Answer.the-variants.{Refused}
+use Rattle.answer.specs.declared.Refusal.{Refusal}
 use Rattle.item.specs.Code.{ofNatural}
 use Rattle.lm.specs.ByName.{lmVersion, lmSubtype}
 
-abbrev pub answerIf : Bool → ℕ → ℕ → Answer → Answer
-answerIf true number place x = x
-answerIf false number place x = refused number place
+abbrev pub answerIf : Bool → Refusal → Answer → Answer
+answerIf true refusal x = x
+answerIf false refusal x = Refused refusal
 
 unfoldable pub lmTested : List ℕ → Answer
 lmTested s =
-    answerIf (leb (length s) 65535) tooLong 0
-    (answerIf (leb 1 (length s)) messageEnds 0
-    (answerIf (eqb (lmVersion s) 3) wrongVersion 5
-    (answerIf (leb (lmSubtype s) 2) wrongSubtype 0
+    answerIf (leb (length s) 65535) (refusalAt tooLong 0)
+    (answerIf (leb 1 (length s)) (refusalAt messageEnds 0)
+    (answerIf (eqb (lmVersion s) 3) (refusalAt wrongVersion 5)
+    (answerIf (leb (lmSubtype s) 2) (refusalAt wrongSubtype 0)
     (accepted 0 0 0))))
 
 -- the tests before an LM's values, by themselves
 unfoldable pub lmListTested : List ℤ → Answer
 lmListTested vs =
-    answerIf (leb 3 (length vs)) wrongValue (length vs)
-    (answerIf (ofNatural (λ n. eqb n 3) (getD vs 2 (pos 0))) wrongVersion 2
-    (answerIf (ofNatural (λ n. leb n 2) (getD vs 0 (pos 0))) wrongSubtype 0
+    answerIf (leb 3 (length vs)) (refusalAt wrongValue (length vs))
+    (answerIf (ofNatural (λ n. eqb n 3) (getD vs 2 (pos 0))) (refusalAt wrongVersion 2)
+    (answerIf (ofNatural (λ n. leb n 2) (getD vs 0 (pos 0))) (refusalAt wrongSubtype 0)
     (accepted 0 0 0)))

@@ -9,7 +9,7 @@ use Rattle.bits.specs.Bits.{numberOf, unpack}
 use Rattle.bits.specs.declared.Fetched.{Fetched}
 use Rattle.bits.specs.declared.Fetched.the-variants.{Bits, Short}
 use Rattle.answer.specs.declared.Answer.{Answer}
-use Rattle.answer.specs.Numbers.{accepted, refused, tooLong, aboveMost, messageEnds}
+use Rattle.answer.specs.Numbers.{refusalAt, accepted, refused, tooLong, aboveMost, messageEnds}
 use Rattle.opened.specs.declared.Taken.{Taken}
 use Rattle.opened.specs.declared.Taken.the-variants.{Number, Refused}
 
@@ -26,7 +26,7 @@ abbrev pub took : ℕ → ℕ → Taken
 took n next = Number n (record { 0 = next })
 
 abbrev pub refusedAt : ℕ → ℕ → Taken
-refusedAt number p = Refused (record { number = number; place = p })
+refusedAt number p = Refused (refusalAt number p)
 
 -- k bits taken at p: above 32 is 6, then too few bits is 2, which are those from p on; of no bits none is missing, anywhere
 abbrev pub taken : List ℕ → ℕ → ℕ → Taken

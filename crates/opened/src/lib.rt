@@ -51,10 +51,7 @@ pub fn opening(message: &[u8]) -> Answer
 fn refused(number: u32, place: BitPlace) -> Taken
     ensures { λ r. ⌜ r ≡ refusedAt number (place .0) ⌝ }
 {
-    Taken::Refused(Refusal {
-        number,
-        place: place.0,
-    })
+    Taken::Refused(Refusal::new(number, place.0))
 }
 
 // What was fetched at a place, as an answer.

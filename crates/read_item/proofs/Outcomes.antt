@@ -15,7 +15,7 @@ use Rattle.bits.specs.Access.{placeAt, fetched}
 use Rattle.bits.specs.declared.BitPlace.{BitPlace}
 use Rattle.bits.specs.declared.Fetched.the-variants.{Bits, Short}
 use Rattle.bits.proofs.Bits.{numberOf-take-lt, length-unpack}
-use Rattle.answer.specs.Numbers.{messageEnds, aboveSpan, noBranch, badLength, aboveMost, badVariable}
+use Rattle.answer.specs.Numbers.{refusalAt, messageEnds, aboveSpan, noBranch, badLength, aboveMost, badVariable}
 use Rattle.item.specs.Code.{Code, number, variable, lengthWithin, index, base, leastOf, indexWidth, valueBits, Got, got, bad, provided, bitField, octetField, onesUpTo, decodeOffset, above, decodeItem}
 use Rattle.item.specs.Answers.{itemOf}
 use Rattle.read_item.specs.Steps.{frontOf, boundedLength}
@@ -77,7 +77,7 @@ fetched-front m p k h = go (leb (p + k) (8 * length m)) refl
 
 -- ── a reading as the code answers it ──
 
-pub item-refused : (c : Code) (b : List Bool) (p : ℕ) {n : ℕ} → decodeItem c b ≡ bad n → itemOf c p (decodeItem c b) ≡ Bad n
+pub item-refused : (c : Code) (b : List Bool) (p : ℕ) {n : ℕ} → decodeItem c b ≡ bad n → itemOf c p (decodeItem c b) ≡ Bad (refusalAt n p)
 item-refused c b p e = rw e
 
 -- the place after an item follows from what is left of the bits
@@ -106,11 +106,11 @@ module _ (low : ℤ) (span : ℕ) (b : List Bool) (p : ℕ) where
   abbrev numberValue : ℕ → List Bool → Got ℕ
   numberValue n r = provided (leb n span) aboveSpan (got n r)
 
-  pub number-short : frontOf b p (width span) ≡ Short → numberReading ≡ Bad messageEnds
+  pub number-short : frontOf b p (width span) ≡ Short → numberReading ≡ Bad (refusalAt messageEnds p)
   number-short e = rw (field-short b p (width span) numberValue e)
 
   module _ {n : ℕ} {q : BitPlace} (e : frontOf b p (width span) ≡ Bits n q) where
-    pub number-over : span < n → numberReading ≡ Bad aboveSpan
+    pub number-over : span < n → numberReading ≡ Bad (refusalAt aboveSpan p)
     number-over h = rw (field-is b p (width span) numberValue e, lt-leb n span h)
 
     pub number-is : n ≤ span → numberReading ≡ Value (low +ℤ pos n) q
@@ -178,18 +178,18 @@ module _ (b : List Bool) (p : ℕ) where
   abbrev variableValue : ℕ → ℕ → List Bool → Got ℕ
   variableValue c m r = got (base c + m) r
 
-  pub variable-short : frontOf b p 8 ≡ Short → variableReading ≡ Bad messageEnds
+  pub variable-short : frontOf b p 8 ≡ Short → variableReading ≡ Bad (refusalAt messageEnds p)
   variable-short e = rw (octet-short 4 badVariable b variableValue (front-Short b p 8 e))
 
   module _ {first : ℕ} {next : BitPlace} (e : frontOf b p 8 ≡ Bits first next) (c : ℕ) (o : c ≡ onesUpTo 4 (bitsOf 8 first)) where
     variable-ones : onesUpTo 4 b ≡ c
     variable-ones = sym (o ∙ first-ones b p e)
 
-    pub variable-starts-1111 : 3 < c → variableReading ≡ Bad badVariable
+    pub variable-starts-1111 : 3 < c → variableReading ≡ Bad (refusalAt badVariable p)
     variable-starts-1111 h = rw (octet-form 4 badVariable b variableValue (first-room b p e) (omega (arith, variable-ones)))
 
     module _ (small : c ≤ 3) where
-      pub variable-cut : frontOf b p (8 * suc c) ≡ Short → variableReading ≡ Bad messageEnds
+      pub variable-cut : frontOf b p (8 * suc c) ≡ Short → variableReading ≡ Bad (refusalAt messageEnds p)
       variable-cut s = rw (octet-cut 4 badVariable b variableValue (first-room b p e) c variable-ones (omega arith) (omega arith) (front-Short b p (8 * suc c) s))
 
       pub variable-is : {k l a n : ℕ} {q : BitPlace} → (k ≡ 8 * suc c) × (l ≡ leadingWorth c) × (a ≡ base c) → frontOf b p k ≡ Bits n q
@@ -217,7 +217,7 @@ module _ (b : List Bool) (p : ℕ) where
 -- where a test decides between the value and a refusal
 tested : (c : Code) (b : List Bool) (p k : ℕ) (t : Bool) (n m : ℕ) {q : BitPlace}
     → decodeItem c b ≡ above (pos 0) (provided t n (got m (drop k b))) → k ≤ length b → placeAt (p + k) ≡ q
-    → itemOf c p (decodeItem c b) ≡ cond t (Value (pos m) q) (Bad n)
+    → itemOf c p (decodeItem c b) ≡ cond t (Value (pos m) q) (Bad (refusalAt n p))
 tested c b p k true n m e l a = item-read c b p k (rw (zero-add m) at e) l a
 tested c b p k false n m e l a = item-refused c b p e
 
@@ -228,21 +228,21 @@ module _ (least most : ℕ) (b : List Bool) (p : ℕ) where
   abbrev lengthValue : ℕ → ℕ → List Bool → Got ℕ
   lengthValue c m r = provided (leb (leastOf c) m) badLength (provided (leb least m && leb m most) aboveMost (got m r))
 
-  pub length-short : frontOf b p 8 ≡ Short → lengthReading ≡ Bad messageEnds
+  pub length-short : frontOf b p 8 ≡ Short → lengthReading ≡ Bad (refusalAt messageEnds p)
   length-short e = rw (octet-short 2 badLength b lengthValue (front-Short b p 8 e))
 
   module _ {first : ℕ} {next : BitPlace} (e : frontOf b p 8 ≡ Bits first next) (c : ℕ) (o : c ≡ onesUpTo 4 (bitsOf 8 first)) where
     length-ones : onesUpTo 2 b ≡ min 2 c
     length-ones = ones-fewer 2 4 b (omega arith) ∙ ap (min 2) (sym (o ∙ first-ones b p e))
 
-    pub length-starts-11 : 1 < c → lengthReading ≡ Bad badLength
+    pub length-starts-11 : 1 < c → lengthReading ≡ Bad (refusalAt badLength p)
     length-starts-11 h = rw (octet-form 2 badLength b lengthValue (first-room b p e) (omega (arith, length-ones)))
 
     module _ (small : c ≤ 1) where
       ones-few : onesUpTo 2 b ≡ c
       ones-few = omega (arith, length-ones)
 
-      pub length-cut : frontOf b p (8 * suc c) ≡ Short → lengthReading ≡ Bad messageEnds
+      pub length-cut : frontOf b p (8 * suc c) ≡ Short → lengthReading ≡ Bad (refusalAt messageEnds p)
       length-cut s = rw (octet-cut 2 badLength b lengthValue (first-room b p e) c ones-few (omega arith) (omega arith) (front-Short b p (8 * suc c) s))
 
       module _ {k l a n : ℕ} {q : BitPlace} (form : (k ≡ 8 * suc c) × (l ≡ leadingWorth c) × (a ≡ base c)) (s : frontOf b p k ≡ Bits n q) where
@@ -256,10 +256,10 @@ module _ (least most : ℕ) (b : List Bool) (p : ℕ) where
         pub length-worth : l ≤ n
         length-worth = rw (form .1) (length-spelt .worth)
 
-        pub length-long-form : n - l < leastOf c → lengthReading ≡ Bad badLength
+        pub length-long-form : n - l < leastOf c → lengthReading ≡ Bad (refusalAt badLength p)
         length-long-form h = rw (length-spelt .then, lt-leb (leastOf c) (n - leadingWorth c) (rw (form .1) at h))
 
-        pub length-is : leastOf c ≤ n - l → lengthReading ≡ boundedLength (n - l) q least most
+        pub length-is : leastOf c ≤ n - l → lengthReading ≡ boundedLength p (n - l) q least most
         length-is h =
             let m = n - leadingWorth c in
             rw (form .1)
@@ -267,7 +267,7 @@ module _ (least most : ℕ) (b : List Bool) (p : ℕ) where
             (rw (length-spelt .then, le-leb (leastOf c) m (rw (form .1) at h)))
             (length-front .inside) (length-front .after))
 
-    pub length-one-octet : c ≡ 0 → lengthReading ≡ boundedLength first next least most
+    pub length-one-octet : c ≡ 0 → lengthReading ≡ boundedLength p first next least most
     unfolding leadingWorth
     length-one-octet z =
         let e' : frontOf b p (8 * suc c) ≡ Bits first next = rw z e in
@@ -283,11 +283,11 @@ module _ (branches b : List Bool) (p : ℕ) where
   abbrev indexValue : ℕ → List Bool → Got ℕ
   indexValue n r = provided (getD branches n false) noBranch (got n r)
 
-  pub index-short : frontOf b p (indexWidth branches) ≡ Short → indexReading ≡ Bad messageEnds
+  pub index-short : frontOf b p (indexWidth branches) ≡ Short → indexReading ≡ Bad (refusalAt messageEnds p)
   index-short e = rw (field-short b p (indexWidth branches) indexValue e)
 
   pub index-is : {n : ℕ} {q : BitPlace} → frontOf b p (indexWidth branches) ≡ Bits n q
-      → indexReading ≡ cond (getD branches n false) (Value (pos n) q) (Bad noBranch)
+      → indexReading ≡ cond (getD branches n false) (Value (pos n) q) (Bad (refusalAt noBranch p))
   index-is {n} e =
       let front = front-Bits b p (indexWidth branches) e in
       tested (index branches) b p (indexWidth branches) (getD branches n false) noBranch

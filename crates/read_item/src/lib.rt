@@ -1,5 +1,5 @@
 // Reads one item of a message. The tests come in document 01's order; the answer is the value with the place after it, or the
-// refusal's number; the caller knows the place.
+// refusal at the item's own place.
 use answer::Refusal;
 use bits::BitPlace;
 use bits::Fetched;
@@ -56,10 +56,10 @@ pub fn number(message: &[u8], place: BitPlace, low: i64, span: u32) -> Item
 {
     let f = bits_at(message, place, item::width(span));
     let Fetched::Bits(n, next) = f else {
-        return Item::Bad(Refusal::MESSAGE_ENDS);
+        return Item::Bad(Refusal::new(Refusal::MESSAGE_ENDS, place.0));
     };
     if span < n {
-        return Item::Bad(Refusal::ABOVE_SPAN);
+        return Item::Bad(Refusal::new(Refusal::ABOVE_SPAN, place.0));
     }
     let value = low + n as i64;
     Item::Value(value, next)
@@ -72,7 +72,7 @@ pub fn octet(message: &[u8], place: BitPlace) -> Item
 {
     let f = octet_at(message, place);
     let Fetched::Bits(n, next) = f else {
-        return Item::Bad(Refusal::MESSAGE_ENDS);
+        return Item::Bad(Refusal::new(Refusal::MESSAGE_ENDS, place.0));
     };
     Item::Value(n as i64, next)
 }
@@ -102,32 +102,32 @@ pub fn variable(message: &[u8], place: BitPlace) -> Item
 {
     let f = octet_at(message, place);
     let Fetched::Bits(first, next) = f else {
-        return Item::Bad(Refusal::MESSAGE_ENDS);
+        return Item::Bad(Refusal::new(Refusal::MESSAGE_ENDS, place.0));
     };
     let ones = ones_of(first);
     if ones == 0 {
         return Item::Value(first as i64, next);
     }
     if 3 < ones {
-        return Item::Bad(Refusal::BAD_VARIABLE);
+        return Item::Bad(Refusal::new(Refusal::BAD_VARIABLE, place.0));
     }
     let form = Form::after_ones(ones);
     let g = bits_at(message, place, form.bits);
     let Fetched::Bits(n, after) = g else {
-        return Item::Bad(Refusal::MESSAGE_ENDS);
+        return Item::Bad(Refusal::new(Refusal::MESSAGE_ENDS, place.0));
     };
     Item::Value((form.base + (n - form.leading)) as i64, after)
 }
 
-// A length that has its own form: whether it is within its row.
-fn bounded(n: u32, next: BitPlace, least: u32, most: u32) -> Item
-    ensures { λ r. ⌜ r ≡ boundedLength n next least most ⌝ }
+// A length at a place that has its own form: whether it is within its row.
+fn bounded(place: BitPlace, n: u32, next: BitPlace, least: u32, most: u32) -> Item
+    ensures { λ r. ⌜ r ≡ boundedLength (place .0) n next least most ⌝ }
 {
     if n < least {
-        return Item::Bad(Refusal::ABOVE_MOST);
+        return Item::Bad(Refusal::new(Refusal::ABOVE_MOST, place.0));
     }
     if most < n {
-        return Item::Bad(Refusal::ABOVE_MOST);
+        return Item::Bad(Refusal::new(Refusal::ABOVE_MOST, place.0));
     }
     Item::Value(n as i64, next)
 }
@@ -139,24 +139,24 @@ pub fn length(message: &[u8], place: BitPlace, least: u32, most: u32) -> Item
 {
     let f = octet_at(message, place);
     let Fetched::Bits(first, next) = f else {
-        return Item::Bad(Refusal::MESSAGE_ENDS); // its first octet
+        return Item::Bad(Refusal::new(Refusal::MESSAGE_ENDS, place.0)); // its first octet
     };
     let ones = ones_of(first);
     if ones == 0 {
-        return bounded(first, next, least, most);
+        return bounded(place, first, next, least, most);
     }
     if 1 < ones {
-        return Item::Bad(Refusal::BAD_LENGTH); // its first two bits
+        return Item::Bad(Refusal::new(Refusal::BAD_LENGTH, place.0)); // its first two bits
     }
     let form = Form::after_ones(ones);
     let g = bits_at(message, place, form.bits);
     let Fetched::Bits(n, after) = g else {
-        return Item::Bad(Refusal::MESSAGE_ENDS); // its second octet
+        return Item::Bad(Refusal::new(Refusal::MESSAGE_ENDS, place.0)); // its second octet
     };
     if n - form.leading < Form::TWO_OCTETS {
-        return Item::Bad(Refusal::BAD_LENGTH); // the long form of a short length
+        return Item::Bad(Refusal::new(Refusal::BAD_LENGTH, place.0)); // the long form of a short length
     }
-    bounded(n - form.leading, after, least, most)
+    bounded(place, n - form.leading, after, least, most)
 }
 
 // The index of a choice of m branches, whose references stand in a table from an offset on.
@@ -166,10 +166,10 @@ pub fn index(message: &[u8], place: BitPlace, table: &[u8], from: usize, m: usiz
 {
     let f = bits_at(message, place, item::width((m - 1) as u32));
     let Fetched::Bits(n, next) = f else {
-        return Item::Bad(Refusal::MESSAGE_ENDS);
+        return Item::Bad(Refusal::new(Refusal::MESSAGE_ENDS, place.0));
     };
     if item::has_branch(table, from, m, n as usize) {
         return Item::Value(n as i64, next);
     }
-    Item::Bad(Refusal::NO_BRANCH)
+    Item::Bad(Refusal::new(Refusal::NO_BRANCH, place.0))
 }

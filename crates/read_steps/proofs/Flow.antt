@@ -10,6 +10,7 @@ use lib.Dec.{leb}
 use lib.IntN.{ℤ}
 use lib.ListN.{length, drop, set, length-append}
 use borrow.Author.Tests.{leb-true, leb-false}
+use Rattle.answer.specs.Numbers.{refusalAt}
 use Rattle.bits.specs.Bits.{unpack}
 use Rattle.bits.specs.Access.{placeAt}
 use Rattle.bits.specs.declared.BitPlace.{BitPlace}
@@ -33,11 +34,11 @@ use Rattle.read_steps.specs.Reads.{cursorAt, refusedAt, stepOf, Kept, Ag
 kept-after : {A : Type 0} (put : List A → ℕ → ℤ → List A) (count : ℕ) (us : List ℤ) (w : Walk) (old mid new : List A)
     → mid ≡ storeAll put old count us → Kept put (count + length us) w mid new → Kept put count (after us w) old new
 kept-after put count us (walked vs at) old mid new e k = k ∙ ap (λ l. storeAll put l (count + length us) vs) e ∙ sym (storeAll-append put us vs old count)
-kept-after put count us (blocked n at) old mid new e k = tt
+kept-after put count us (blocked refusal) old mid new e k = tt
 
 step-after : (count : ℕ) (us : List ℤ) (w : Walk) → stepOf (count + length us) w ≡ stepOf count (after us w)
 step-after count us (walked vs at) = ap (λ n. Past (cursorAt at n)) (rw length-append (omega arith))
-step-after count us (blocked n at) = refl
+step-after count us (blocked refusal) = refl
 
 module _ {count : ℕ} {old mid new : List ℤ} {oldPacked midPacked newPacked : List ℕ} {first step : Step} where
   -- a part that was read, and then the rest
@@ -45,7 +46,7 @@ module _ {count : ℕ} {old mid new : List ℤ} {oldPacked midPacked newPacked :
       → Agrees count old mid oldPacked midPacked first w → first ≡ Past c
       → Agrees (c .count) mid new midPacked newPacked step (f (room - c .count) (c .place .0))
       → Agrees count old new oldPacked newPacked step (next (room - count) w f)
-  then-reads (blocked n at) room f c a e b = let z : _≡_ {A = ℕ} 0 1 = cc (a .answer) in absurd (omega arith)
+  then-reads (blocked refusal) room f c a e b = let z : _≡_ {A = ℕ} 0 1 = cc (a .answer) in absurd (omega arith)
   then-reads (walked us at) room f c a e b =
       let ec : c ≡ cursorAt at (count + length us) = cc (a .answer) in
       let en : c .count ≡ count + length us = ap (λ x. x .count) ec in
@@ -60,10 +61,10 @@ module _ {count : ℕ} {old mid new : List ℤ} {oldPacked midPacked newPacked :
       }
 
 -- a refusal ends it
-pub stop-reads : {count : ℕ} {old new : List ℤ} {oldPacked newPacked : List ℕ} {step : Step} {number place : ℕ} (w : Walk) (room : ℕ) (f : ℕ → ℕ → Walk)
-    → Agrees count old new oldPacked newPacked step w → step ≡ refusedAt number place → Agrees count old new oldPacked newPacked step (next room w f)
+pub stop-reads : {count : ℕ} {old new : List ℤ} {oldPacked newPacked : List ℕ} {step : Step} {refusal : Refusal} (w : Walk) (room : ℕ) (f : ℕ → ℕ → Walk)
+    → Agrees count old new oldPacked newPacked step w → step ≡ Refused refusal → Agrees count old new oldPacked newPacked step (next room w f)
 stop-reads (walked us at) room f a e = let z : _≡_ {A = ℕ} 0 1 = cc (a .answer) in absurd (omega arith)
-stop-reads (blocked n at) room f a e = record { answer = a .answer; values = tt; packed = tt }
+stop-reads (blocked refusal) room f a e = record { answer = a .answer; values = tt; packed = tt }
 
 -- nothing asked for
 pub nothing-reads : (message : List ℕ) (room : ℕ) (c : Cursor) (old : List ℤ) (oldPacked : List ℕ)
@@ -87,26 +88,26 @@ module _ (c : Code) (k : ℤ → Items) (message : List ℕ) (room : ℕ) (curso
   item = itemAt c message (cursor .place .0)
 
   -- refused
-  pub item-stuck : (number place : ℕ) → keptStep item room cursor ≡ refusedAt number place
-      → (new : List ℤ) (newPacked : List ℕ) → Agrees (cursor .count) old new oldPacked newPacked (refusedAt number place) (walkFrom (ask c k) message room cursor)
-  item-stuck number place e new newPacked = go (decodeItem c (drop (cursor .place .0) (unpack message))) refl e
+  pub item-stuck : (refusal : Refusal) → keptStep item room cursor ≡ Refused refusal
+      → (new : List ℤ) (newPacked : List ℕ) → Agrees (cursor .count) old new oldPacked newPacked (Refused refusal) (walkFrom (ask c k) message room cursor)
+  item-stuck refusal e new newPacked = go (decodeItem c (drop (cursor .place .0) (unpack message))) refl e
     where
-      blockedBy : (n p : ℕ) → walkFrom (ask c k) message room cursor ≡ blocked n p → refusedAt number place ≡ refusedAt n p
-          → Agrees (cursor .count) old new oldPacked newPacked (refusedAt number place) (walkFrom (ask c k) message room cursor)
-      blockedBy n p w q = rw w (record { answer = q; values = tt; packed = tt })
+      blockedBy : (by : Refusal) → walkFrom (ask c k) message room cursor ≡ blocked by → Refused refusal ≡ Refused by
+          → Agrees (cursor .count) old new oldPacked newPacked (Refused refusal) (walkFrom (ask c k) message room cursor)
+      blockedBy by w q = rw w (record { answer = q; values = tt; packed = tt })
 
       full : (b : Bool) (v : ℤ) (nx : BitPlace) (r : List Bool) → leb room (cursor .count) ≡ b
           → decodeItem c (drop (cursor .place .0) (unpack message)) ≡ got v r
-          → cond b (refusedAt 8 (cursor .place .0)) (Past (record { place = nx; count = cursor .count + 1 })) ≡ refusedAt number place
-          → Agrees (cursor .count) old new oldPacked newPacked (refusedAt number place) (walkFrom (ask c k) message room cursor)
+          → cond b (refusedAt 8 (cursor .place .0)) (Past (record { place = nx; count = cursor .count + 1 })) ≡ Refused refusal
+          → Agrees (cursor .count) old new oldPacked newPacked (Refused refusal) (walkFrom (ask c k) message room cursor)
       full true v nx r t q e =
           let z : room - cursor .count ≡ 0 = omega (arith, leb-true room (cursor .count) t) in
-          blockedBy 8 (cursor .place .0) (rw z (walk-full c k (unpack message) (cursor .place .0) q)) (sym e)
+          blockedBy (refusalAt 8 (cursor .place .0)) (rw z (walk-full c k (unpack message) (cursor .place .0) q)) (sym e)
       full false v nx r t q e = let z : _≡_ {A = ℕ} 0 1 = cc in absurd (omega arith)
 
-      go : (g : Got ℤ) → decodeItem c (drop (cursor .place .0) (unpack message)) ≡ g → keptStep (itemOf c (cursor .place .0) g) room cursor ≡ refusedAt number place
-          → Agrees (cursor .count) old new oldPacked newPacked (refusedAt number place) (walkFrom (ask c k) message room cursor)
-      go (bad n) q e = blockedBy n (cursor .place .0) (walk-bad c k (unpack message) (cursor .place .0) (room - cursor .count) n q) (sym e)
+      go : (g : Got ℤ) → decodeItem c (drop (cursor .place .0) (unpack message)) ≡ g → keptStep (itemOf c (cursor .place .0) g) room cursor ≡ Refused refusal
+          → Agrees (cursor .count) old new oldPacked newPacked (Refused refusal) (walkFrom (ask c k) message room cursor)
+      go (bad n) q e = blockedBy (refusalAt n (cursor .place .0)) (walk-bad c k (unpack message) (cursor .place .0) (room - cursor .count) n q) (sym e)
       go (got v r) q e = full (leb room (cursor .count)) v (placeAt (cursor .place .0 + length (valueBits c v))) r refl q e
 
   -- read, with its value v: what follows completes it
@@ -213,6 +214,6 @@ pub refused-item : {message : List ℕ} {room : ℕ} (c : Code) (k : ℤ → Ite
     → Reads message room (ask c k) a values packed (Refused refusal)
 refused-item {message} {room} c k {a} {item} {refusal} {values} {packed} ei es = record {
   agrees =
-      item-stuck c k message room (a .cursor) (a .values) (a .packed) (refusal .number) (refusal .place)
+      item-stuck c k message room (a .cursor) (a .values) (a .packed) refusal
       (ap (λ i. keptStep i room (a .cursor)) (sym ei) ∙ es) values packed;
 }

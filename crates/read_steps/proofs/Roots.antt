@@ -13,9 +13,9 @@ use lib.IntN.{ℤ}
 use lib.ListN.{length, take, drop, set, length-append, length-drop}
 use lib.Seq.{drop-at, take-all}
 use borrow.Author.Tests.{eq-eqb, ne-eqb}
+use Rattle.answer.specs.Numbers.{refusalAt, accepted, refused}
 use Rattle.bits.specs.Bits.{numberOf, unpack}
 use Rattle.bits.proofs.Bits.{length-unpack}
-use Rattle.answer.specs.Numbers.{accepted, refused}
 use Rattle.answer.specs.declared.Answer.{Answer}
 use Rattle.answer.specs.declared.Answer.the-variants.{Refused}
 use Rattle.answer.specs.declared.Refusal.{Refusal}
@@ -88,10 +88,10 @@ module _ (p : Items) (s : List ℕ) (room : ℕ) (old new : List ℤ) (oldPacked
     where
       go : (x : Reading) → Agrees 0 old new oldPacked newPacked step (forget x) → Comes (closeRead (length s) x) (Refused refusal)
       go (done vs at r) a = let z : _≡_ {A = ℕ} 0 1 = cc (a .answer) in absurd (omega arith)
-      go (stuck n at) a = let q : StepRefused (record { number = n; place = at }) ≡ StepRefused refusal = sym (a .answer) ∙ e in (cc, tt, tt)
+      go (stuck by) a = let q : StepRefused by ≡ StepRefused refusal = sym (a .answer) ∙ e in (cc, tt, tt)
 
   either : (t : Bool) (vs : List ℤ) (at : ℕ) → new ≡ storeAll set old 0 vs → newPacked ≡ storeAll setValue oldPacked 0 vs
-      → Comes (cond t (accept vs at) (refuse 9 at)) (cond t (accepted (length vs) at 0) (refused 9 at))
+      → Comes (cond t (accept vs at) (refuse (refusalAt 9 at))) (cond t (accepted (length vs) at 0) (refused 9 at))
   either true vs at k l = (refl, k, l)
   either false vs at k l = (refl, tt, tt)
 
@@ -101,7 +101,7 @@ module _ (p : Items) (s : List ℕ) (room : ℕ) (old new : List ℤ) (oldPacked
     where
       go : (x : Reading) → readItems p (unpack s) room 0 ≡ x → Agrees 0 old new oldPacked newPacked step (forget x)
           → (c .place .0 ≤ 8 * length s) × Comes (decode p s room) (closed s c)
-      go (stuck n at) q a = let z : _≡_ {A = ℕ} 0 1 = cc (a .answer) in absurd (omega arith)
+      go (stuck refusal) q a = let z : _≡_ {A = ℕ} 0 1 = cc (a .answer) in absurd (omega arith)
       go (done vs at r) q a =
           let b = unpack s in
           let so = read-sound p b room 0 vs at r q in

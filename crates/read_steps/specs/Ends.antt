@@ -21,7 +21,7 @@ use Rattle.read_steps.specs.declared.Step.the-variants.{Past, Refused as
 -- an accepted outcome's values are kept from the slice's start on; a refusal leaves anything
 abbrev pub KeptBy : {A : Type 0} → (List A → ℕ → ℤ → List A) → ReadOutcome → List A → List A → Type 0
 KeptBy put (accept vs bits) old new = new ≡ storeAll put old 0 vs
-KeptBy put (refuse number place) old new = Unit {0}
+KeptBy put (refuse refusal) old new = Unit {0}
 
 -- the close of a message whose root ends at a cursor
 abbrev pub closed : List ℕ → Cursor → Answer

@@ -9,7 +9,7 @@ use lib.IntN.{ℤ, pos}
 use lib.ListN.{length, set}
 use Rattle.bits.specs.Bits.{unpack}
 use Rattle.bits.specs.Access.{placeAt}
-use Rattle.answer.specs.Numbers.{noRoom}
+use Rattle.answer.specs.Numbers.{noRoom, refusalAt}
 use Rattle.item.specs.Code.{natural}
 use Rattle.item.specs.declared.Item.{Item}
 use Rattle.item.specs.declared.Item.the-variants.{Value, Bad}
@@ -24,17 +24,17 @@ abbrev pub cursorAt : ℕ → ℕ → Cursor
 cursorAt place count = record { place = placeAt place; count = count }
 
 abbrev pub refusedAt : ℕ → ℕ → Step
-refusedAt number place = Refused (record { number = number; place = place })
+refusedAt number place = Refused (refusalAt number place)
 
 -- a walk as the code answers it, where count values stood before
 abbrev pub stepOf : ℕ → Walk → Step
 stepOf count (walked vs place) = Past (cursorAt place (count + length vs))
-stepOf count (blocked number place) = refusedAt number place
+stepOf count (blocked refusal) = Refused refusal
 
 -- the slices that a walk leaves: its values, kept from index count on; after a refusal anything
 abbrev pub Kept : {A : Type 0} → (List A → ℕ → ℤ → List A) → ℕ → Walk → List A → List A → Type 0
 Kept put count (walked vs place) old new = new ≡ storeAll put old count vs
-Kept put count (blocked number place) old new = Unit {0}
+Kept put count (blocked refusal) old new = Unit {0}
 
 -- the code's step and the slices that it leaves agree with a walk
 pub record Agrees (count : ℕ) (old new : List ℤ) (oldPacked newPacked : List ℕ) (step : Step) (w : Walk) : Type 0 where
@@ -65,13 +65,13 @@ pub record Continues (message : List ℕ) (room : ℕ) (p : Items) (from : State
 
 -- an item that was read: its own refusal, then 8; else its value is kept and the cursor moves on
 abbrev pub keptStep : Item → ℕ → Cursor → Step
-keptStep (Bad number) room cursor = refusedAt number (cursor .place .0)
+keptStep (Bad refusal) room cursor = Refused refusal
 keptStep (Value v next) room cursor =
     cond (leb room (cursor .count)) (refusedAt noRoom (cursor .place .0)) (Past (record { place = next; count = cursor .count + 1 }))
 
 -- its value, 0 where there is none
 abbrev pub valueOf : Item → ℤ
-valueOf (Bad number) = pos 0
+valueOf (Bad refusal) = pos 0
 valueOf (Value v next) = v
 
 -- its value as a count
@@ -79,5 +79,5 @@ abbrev pub countOf : Item → ℕ
 countOf item = natural (valueOf item)
 
 abbrev pub keptIn : {A : Type 0} → (List A → ℕ → ℤ → List A) → Item → ℕ → ℕ → List A → List A
-keptIn put (Bad number) room count old = old
+keptIn put (Bad refusal) room count old = old
 keptIn put (Value v next) room count old = cond (leb room count) old (put old count v)

@@ -32,16 +32,12 @@ pub enum Step {
 pub fn kept(item: Item, values: &mut [i64], packed: &mut [u8], room: usize, cursor: Cursor) -> Step
     ensures { λ r. ⌜ (r ≡ keptStep item room cursor) × (now (values .exit) ≡ keptIn set item room (cursor .count) (now (values .entry))) × (now (packed .exit) ≡ keptIn setValue item room (cursor .count) (now (packed .entry))) ⌝ }
 {
-    let place = cursor.place.0;
     match item {
-        Item::Bad(number) => Step::Refused(Refusal { number, place }),
+        Item::Bad(refusal) => Step::Refused(refusal),
         Item::Value(value, next) => {
             let at = cursor.count;
             if room <= at {
-                return Step::Refused(Refusal {
-                    number: Refusal::NO_ROOM,
-                    place,
-                });
+                return Step::Refused(Refusal::new(Refusal::NO_ROOM, cursor.place.0));
             }
             values::keep(values, packed, at, value);
             Step::Past(Cursor {

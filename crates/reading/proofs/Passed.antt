@@ -7,6 +7,7 @@ use mathlib.Core.List.{List, [], _∷_}
 use native.Mathlib.Omega.{arith}
 use lib.Dec.{leb}
 use lib.ListN.{length}
+use Rattle.answer.specs.Numbers.{refusalAt}
 use Rattle.answer.specs.declared.Answer.{Answer}
 use Rattle.answer.specs.declared.Answer.the-variants.{Accepted, Refused}
 use Rattle.answer.specs.declared.Counts.{Counts}
@@ -24,7 +25,7 @@ use Rattle.reading.specs.Outcome.{messageOutcome}
 
 pub accepted-passed : (v : Verdict) (counts : Counts) → checked v ≡ Accepted counts → v ≡ passed
 accepted-passed passed counts e = refl
-accepted-passed (broken n p) counts e = let z : _≡_ {A = ℕ} 0 1 = cc in absurd (omega arith)
+accepted-passed (broken by) counts e = let z : _≡_ {A = ℕ} 0 1 = cc in absurd (omega arith)
 
 pub accepted-obeys : (t : List ℕ) (r : Answer) (counts : Counts) → r ≡ checked (verdict t) → r ≡ Accepted counts → Obeys t
 accepted-obeys t r counts e a = passes-exactly t .0 (accepted-passed (verdict t) counts (sym e ∙ a))
@@ -42,10 +43,10 @@ broken-outcome t s room r refusal e a = go (verdict t) (sym e ∙ a) e
   where
     go : (v : Verdict) → checked v ≡ Refused refusal → r ≡ checked v → (r ≡ readAnswer (onPassed v (messageOutcome t s room))) × (readValues (onPassed v (messageOutcome t s room)) ≡ [])
     go passed q e = let z : _≡_ {A = ℕ} 0 1 = cc in absurd (omega arith)
-    go (broken n p) q e = (e, refl)
+    go (broken by) q e = (e, refl)
 
 -- no octets
-pub empty-outcome : (t s : List ℕ) (room : ℕ) → length s ≡ 0 → messageOutcome t s room ≡ refuse 2 0
+pub empty-outcome : (t s : List ℕ) (room : ℕ) → length s ≡ 0 → messageOutcome t s room ≡ refuse (refusalAt 2 0)
 empty-outcome t [] room h = refl
 empty-outcome t (o ∷ os) room h = absurd (omega arith)
 
@@ -54,7 +55,7 @@ empty-outcome t (o ∷ os) room h = absurd (omega arith)
 pub outcome-fits : (t s : List ℕ) (room : ℕ) → length (readValues (messageOutcome t s room)) ≤ room
 outcome-fits t s room = go (leb (length s) 65535) (decode (asks t) s room) refl
   where
-    go : (b : Bool) (x : ReadOutcome) → decode (asks t) s room ≡ x → length (readValues (cond b x (refuse 13 0))) ≤ room
+    go : (b : Bool) (x : ReadOutcome) → decode (asks t) s room ≡ x → length (readValues (cond b x (refuse (refusalAt 13 0)))) ≤ room
     go false x q = omega arith
-    go true (refuse n p) q = omega arith
+    go true (refuse refusal) q = omega arith
     go true (accept vs n) q = decode-fits (asks t) s room vs n q

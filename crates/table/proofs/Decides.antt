@@ -11,6 +11,8 @@ use lib.Dec.{leb, eqb}
 use lib.ListN.{length, set, replicate, length-set, length-replicate}
 use lib.Seq.{getD-set-same, getD-set-other}
 use borrow.Author.Tests.{leb-true, leb-false, eqb-true, le-leb, eq-eqb, ne-eqb}
+use Rattle.answer.specs.Numbers.{refusalAt}
+use Rattle.answer.specs.declared.Refusal.{Refusal}
 use Rattle.octets.specs.Numbers.{u16}
 use Rattle.row.specs.Offsets.{earlier}
 use Rattle.row.specs.Rows.{Row, Number, Variable, FixedRun, CountedRun, Record, Choice, Octets, Unknown, rowAt, rowLength}
@@ -241,11 +243,11 @@ obeys-complete t h =
     (and-true _ _ (le-leb (length t) 4096 (h .most))
     (scan-complete t (h .most) (suc (length t)) 0 (replicate 4096 0) (start t 4096 refl) here (record { filled = h .filled; rows = λ o r l. h .rows o (r, l) }) (omega arith)))
 
-passed-inv : (b : Bool) (n p : ℕ) → cond b passed (broken n p) ≡ passed → b ≡ true
-passed-inv true n p e = refl
-passed-inv false n p e = cc
+passed-inv : (b : Bool) (refusal : Refusal) → cond b passed (broken refusal) ≡ passed → b ≡ true
+passed-inv true refusal e = refl
+passed-inv false refusal e = cc
 
 -- the verdict passes a table exactly when it obeys the rules
 pub passes-exactly : (t : List ℕ) → (verdict t ≡ passed) ↔ Obeys t
 unfolding verdict
-passes-exactly t = (λ e. obeys-sound t (passed-inv (obeys t) 1 0 e), λ h. rw (obeys-complete t h))
+passes-exactly t = (λ e. obeys-sound t (passed-inv (obeys t) (refusalAt 1 0) e), λ h. rw (obeys-complete t h))

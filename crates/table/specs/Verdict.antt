@@ -7,7 +7,9 @@ use lib.Dec.{leb, eqb}
 use lib.ListN.{length, set, replicate}
 use Rattle.octets.specs.Numbers.{u16}
 use Rattle.answer.specs.declared.Answer.{Answer}
-use Rattle.answer.specs.Numbers.{accepted, refused, brokenTable}
+use Rattle.answer.specs.declared.Answer.the-variants.{Refused}
+use Rattle.answer.specs.Numbers.{refusalAt, accepted, brokenTable}
+use Rattle.answer.specs.declared.Refusal.{Refusal}
 use Rattle.rules.specs.Tests.{rowTest, rowDepth}
 
 -- the rows from o on, at most f of them
@@ -18,16 +20,16 @@ scan (suc f) t o d = cond (eqb o (length t)) true (rowTest t o d && scan f t (o 
 unfoldable pub obeys : List ℕ → Bool
 obeys t = leb 4 (length t) && (leb (length t) 4096 && scan (suc (length t)) t 0 (replicate 4096 0))
 
--- passed, or broken: a refusal's number and place
+-- passed, or broken: the refusal
 pub data Verdict : Type 0 where
   passed : Verdict
-  broken : ℕ → ℕ → Verdict
+  broken : Refusal → Verdict
 
--- the one place where a broken table gets its number and place
+-- the one place where a broken table gets its refusal
 unfoldable pub verdict : List ℕ → Verdict
-verdict t = cond (obeys t) passed (broken brokenTable 0)
+verdict t = cond (obeys t) passed (broken (refusalAt brokenTable 0))
 
 -- the check's answer; an accepted check counts nothing
 abbrev pub checked : Verdict → Answer
 checked passed = accepted 0 0 0
-checked (broken number place) = refused number place
+checked (broken refusal) = Refused refusal

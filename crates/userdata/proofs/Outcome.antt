@@ -32,11 +32,11 @@ use Rattle.userdata.proofs.Taken.{read-is}
 
 step-refused : (w : Walk) (refusal : Refusal) → StepRefused refusal ≡ stepOf 0 w → 0 ≡ walkCount w
 step-refused (walked vs at) refusal e = let z : _≡_ {A = ℕ} 0 1 = cc in absurd (omega arith)
-step-refused (blocked n at) refusal e = refl
+step-refused (blocked by) refusal e = refl
 
 step-past : (w : Walk) (c : Cursor) → Past c ≡ stepOf 0 w → c .count ≡ walkCount w
 step-past (walked vs at) c e = let q : c ≡ cursorAt at (0 + length vs) = cc in ap (λ (x : Cursor). x .count) q ∙ zero-add (length vs)
-step-past (blocked n at) c e = let z : _≡_ {A = ℕ} 0 1 = cc in absurd (omega arith)
+step-past (blocked refusal) c e = let z : _≡_ {A = ℕ} 0 1 = cc in absurd (omega arith)
 
 module _ (s : List ℕ) (old new : List ℤ) (oldPacked newPacked : List ℕ) (first : Step)
     (reads : Reads s enough (items lm 204) (stateAt (cursorAt 0 0) old oldPacked) new newPacked first) where
@@ -76,7 +76,7 @@ module _ (s : List ℕ) where
   accepted-placed counts e = go (readLmOutcome s enough) refl e
     where
       go : (x : ReadOutcome) → readLmOutcome s enough ≡ x → readAnswer x ≡ Accepted counts → Placed s counts
-      go (refuse n p) q e = let z : _≡_ {A = ℕ} 0 1 = cc in absurd (omega arith)
+      go (refuse refusal) q e = let z : _≡_ {A = ℕ} 0 1 = cc in absurd (omega arith)
       go (accept vs n) q e =
           let r = read-is s vs n q in
           let k : record { values = length vs; bits = record { 0 = n }; octets = record { 0 = 0 } } ≡ counts = cc in
@@ -94,7 +94,7 @@ module _ (s : List ℕ) where
     where
       go : (x : ReadOutcome) → readAnswer x ≡ Refused refusal → FoundRefused refusal ≡ foundIn (length s) x
       go (accept vs n) e = let z : _≡_ {A = ℕ} 0 1 = cc in absurd (omega arith)
-      go (refuse n p) e = let k : record { number = n; place = p } ≡ refusal = cc in ap FoundRefused (sym k)
+      go (refuse by) e = let k : by ≡ refusal = cc in ap FoundRefused (sym k)
 
   -- the part ends the message
   pub found-ends : (span : Span) → userDataFound s ≡ At span → span .start .0 + span .length .0 ≡ length s
@@ -102,7 +102,7 @@ module _ (s : List ℕ) where
   found-ends span e = go (readLmOutcome s enough) refl e
     where
       go : (x : ReadOutcome) → readLmOutcome s enough ≡ x → foundIn (length s) x ≡ At span → span .start .0 + span .length .0 ≡ length s
-      go (refuse n p) q e = let z : _≡_ {A = ℕ} 0 1 = cc in absurd (omega arith)
+      go (refuse refusal) q e = let z : _≡_ {A = ℕ} 0 1 = cc in absurd (omega arith)
       go (accept vs n) q e =
           let k : spanOf (length s - dataLength vs) (dataLength vs) ≡ span = cc in
           let a : length s - dataLength vs ≡ span .start .0 = ap (λ (x : Span). x .start .0) k in

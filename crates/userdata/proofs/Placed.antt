@@ -64,7 +64,7 @@ module _ (s : List ℕ) (m : Message s) (span : Span) where
   found-laid e = go (readLmOutcome s enough) refl e
     where
       go : (x : ReadOutcome) → readLmOutcome s enough ≡ x → foundIn (length s) x ≡ At span → (l : Lm) × LaidOut s l × IsUserData l span
-      go (refuse n p) q e = let z : _≡_ {A = ℕ} 0 1 = cc in absurd (omega arith)
+      go (refuse refusal) q e = let z : _≡_ {A = ℕ} 0 1 = cc in absurd (omega arith)
       go (accept vs n) q e =
           let x = demand2-lm .reads s m enough vs n .0 q in
           let l = x .0 in

@@ -10,6 +10,8 @@ use lib.Dec.{leb, ltb, eqb}
 use lib.IntN.{ℤ, pos, _-ℤ_}
 use lib.ListN.{length, drop, getD, replicate, length-append}
 use borrow.Author.Tests.{leb-true}
+use Rattle.answer.specs.Numbers.{refusalAt}
+use Rattle.answer.specs.declared.Refusal.{Refusal}
 use Rattle.octets.specs.Numbers.{u16, u32, signed, u16s, there}
 use Rattle.bits.specs.Bits.{width, unpack}
 use Rattle.bits.proofs.Bits.{length-bitsOf, length-unpack}
@@ -257,22 +259,25 @@ same-room (ask c k) h b room room′ at l l′ = go (decodeItem c b) refl room r
         let d = shorter c b v r (h .0 v) e in
         ap (prepend (v ∷ [])) (ih v r room room′ (at + length (valueBits c v)) (omega arith) (omega arith))
 
-never-full : (p : Items) → Costs p → (b : List Bool) (room at : ℕ) → length b ≤ room → (n place : ℕ) → readItems p b room at ≡ stuck n place → n ≢ 8
-never-full stop h b room at l n place e = let z : _≡_ {A = ℕ} 0 1 = cc in absurd (omega arith)
-never-full (ask c k) h b room at l n place e = go (decodeItem c b) refl room l (λ v. never-full (k v) (h .1 v)) e
+never-full : (p : Items) → Costs p → (b : List Bool) (room at : ℕ) → length b ≤ room → (refusal : Refusal) → readItems p b room at ≡ stuck refusal → refusal .number ≢ 8
+never-full stop h b room at l refusal e = let z : _≡_ {A = ℕ} 0 1 = cc in absurd (omega arith)
+never-full (ask c k) h b room at l refusal e = go (decodeItem c b) refl room l (λ v. never-full (k v) (h .1 v)) e
   where
-    behind : (us : List ℤ) (x : Reading) → prepend us x ≡ stuck n place → x ≡ stuck n place
+    behind : (us : List ℤ) (x : Reading) → prepend us x ≡ stuck refusal → x ≡ stuck refusal
     behind us (done vs at b) e = let z : _≡_ {A = ℕ} 0 1 = cc in absurd (omega arith)
-    behind us (stuck m at) e = e
+    behind us (stuck by) e = e
 
     go : (g : Got ℤ) → decodeItem c b ≡ g → (room : ℕ) → length b ≤ room
-        → ((v : ℤ) (b : List Bool) (room at : ℕ) → length b ≤ room → (n place : ℕ) → readItems (k v) b room at ≡ stuck n place → n ≢ 8)
-        → readOne at g room (λ v b′ room′. readItems (k v) b′ room′ (at + length (valueBits c v))) ≡ stuck n place → n ≢ 8
-    go (bad m) q room l ih e = let z : m ≡ n = cc in item-other c b n (q ∙ ap (λ n. bad n) z)
+        → ((v : ℤ) (b : List Bool) (room at : ℕ) → length b ≤ room → (refusal : Refusal) → readItems (k v) b room at ≡ stuck refusal → refusal .number ≢ 8)
+        → readOne at g room (λ v b′ room′. readItems (k v) b′ room′ (at + length (valueBits c v))) ≡ stuck refusal → refusal .number ≢ 8
+    go (bad m) q room l ih e =
+        let y : refusalAt m at ≡ refusal = cc in
+        let z : m ≡ refusal .number = ap (λ (x : Refusal). x .number) y in
+        item-other c b (refusal .number) (q ∙ ap (λ n. bad n) z)
     go (got v r) q zero l ih e = absurd (omega (arith, shorter c b v r (h .0 v) q))
     go (got v r) q (suc room) l ih e =
         let d = shorter c b v r (h .0 v) q in
-        ih v r room (at + length (valueBits c v)) (omega arith) n place (behind (v ∷ []) _ e)
+        ih v r room (at + length (valueBits c v)) (omega arith) refusal (behind (v ∷ []) _ e)
 
 -- ── an LM ──
 
@@ -288,37 +293,44 @@ unfolding readLmOutcome
 lm-room s room l = go (leb (length s) 65535) refl
   where
     go : (t : Bool) → leb (length s) 65535 ≡ t
-        → readIf t 13 0 (readIf (leb 1 (length s)) 2 0 (readIf (eqb (lmVersion s) 3) 10 5 (readIf (leb (lmSubtype s) 2) 11 0 (decode (asks lm) s room))))
-        ≡ readIf t 13 0 (readIf (leb 1 (length s)) 2 0 (readIf (eqb (lmVersion s) 3) 10 5 (readIf (leb (lmSubtype s) 2) 11 0 (decode (asks lm) s enough))))
+        → readIf t (refusalAt 13 0) (readIf (leb 1 (length s)) (refusalAt 2 0) (readIf (eqb (lmVersion s) 3) (refusalAt 10 5) (readIf (leb (lmSubtype s) 2) (refusalAt 11 0) (decode (asks lm) s room))))
+        ≡ readIf t (refusalAt 13 0) (readIf (leb 1 (length s)) (refusalAt 2 0) (readIf (eqb (lmVersion s) 3) (refusalAt 10 5) (readIf (leb (lmSubtype s) 2) (refusalAt 11 0) (decode (asks lm) s enough))))
     go false e = refl
     go true e =
-        ap (λ x. readIf (leb 1 (length s)) 2 0 (readIf (eqb (lmVersion s) 3) 10 5 (readIf (leb (lmSubtype s) 2) 11 0 x)))
+        ap (λ x. readIf (leb 1 (length s)) (refusalAt 2 0) (readIf (eqb (lmVersion s) 3) (refusalAt 10 5) (readIf (leb (lmSubtype s) 2) (refusalAt 11 0) x)))
         (decode-room s room (leb-true (length s) 65535 e) l)
 
-close-other : (n : ℕ) (x : Reading) → ((m at : ℕ) → x ≡ stuck m at → m ≢ 8) → (place : ℕ) → closeRead n x ≢ refuse 8 place
-close-other n (stuck m at) h place e = let z : m ≡ 8 = cc in h m at refl z
-close-other n (done vs at b) h place e = go (eqb n (size at) && allZero b) e
-  where
-    go : (t : Bool) → cond t (accept vs at) (refuse 9 at) ≢ refuse 8 place
-    go true e = let z : _≡_ {A = ℕ} 0 1 = cc in absurd (omega arith)
-    go false e = let z : _≡_ {A = ℕ} 9 8 = cc in absurd (omega arith)
+-- a refusal of another number than 8
+other : (n p : ℕ) (refusal : Refusal) → n ≢ 8 → refuse (refusalAt n p) ≡ refuse refusal → refusal .number ≢ 8
+other n p refusal h e =
+    let y : refusalAt n p ≡ refusal = cc in
+    λ z. h (ap (λ (x : Refusal). x .number) y ∙ z)
 
-decode-other : (s : List ℕ) (room : ℕ) → length s ≤ 65535 → enough ≤ room → (place : ℕ) → decode (asks lm) s room ≢ refuse 8 place
-decode-other [] room h l place = λ e. let z : _≡_ {A = ℕ} 2 8 = cc in absurd (omega arith)
-decode-other (o ∷ os) room h l place =
+close-other : (n : ℕ) (x : Reading) → ((by : Refusal) → x ≡ stuck by → by .number ≢ 8) → (refusal : Refusal) → closeRead n x ≡ refuse refusal → refusal .number ≢ 8
+close-other n (stuck by) h refusal e = let z : by ≡ refusal = cc in rw z at (h by refl)
+close-other n (done vs at b) h refusal e = go (eqb n (size at) && allZero b) e
+  where
+    go : (t : Bool) → cond t (accept vs at) (refuse (refusalAt 9 at)) ≡ refuse refusal → refusal .number ≢ 8
+    go true e = let z : _≡_ {A = ℕ} 0 1 = cc in absurd (omega arith)
+    go false e = other 9 at refusal (λ q. omega (arith, q)) e
+
+decode-other : (s : List ℕ) (room : ℕ) → length s ≤ 65535 → enough ≤ room → (refusal : Refusal) → decode (asks lm) s room ≡ refuse refusal → refusal .number ≢ 8
+decode-other [] room h l refusal = other 2 0 refusal (λ q. omega (arith, q))
+decode-other (o ∷ os) room h l refusal =
     let s = o ∷ os in
     let b = length-unpack s in
-    close-other (length s) (readItems (asks lm) (unpack s) room 0) (never-full (asks lm) lm-costs (unpack s) room 0 (omega arith)) place
+    close-other (length s) (readItems (asks lm) (unpack s) room 0) (never-full (asks lm) lm-costs (unpack s) room 0 (omega arith)) refusal
 
-readIf-other : (t : Bool) (n p : ℕ) (x : ReadOutcome) (place : ℕ) → n ≢ 8 → (t ≡ true → x ≢ refuse 8 place) → readIf t n p x ≢ refuse 8 place
-readIf-other true n p x place h k = k refl
-readIf-other false n p x place h k = λ e. let z : n ≡ 8 = cc in h z
+readIf-other : (t : Bool) (n p : ℕ) (x : ReadOutcome) (refusal : Refusal) → n ≢ 8 → (t ≡ true → x ≡ refuse refusal → refusal .number ≢ 8)
+    → readIf t (refusalAt n p) x ≡ refuse refusal → refusal .number ≢ 8
+readIf-other true n p x refusal h k = k refl
+readIf-other false n p x refusal h k = other n p refusal h
 
-pub lm-never : (s : List ℕ) (room place : ℕ) → enough ≤ room → readLmOutcome s room ≢ refuse 8 place
+pub lm-never : (s : List ℕ) (room : ℕ) → enough ≤ room → (refusal : Refusal) → readLmOutcome s room ≡ refuse refusal → refusal .number ≢ 8
 unfolding readLmOutcome
-lm-never s room place l =
-    readIf-other (leb (length s) 65535) 13 0 _ place (λ q. omega (arith, q))
-    (λ most. readIf-other (leb 1 (length s)) 2 0 _ place (λ q. omega (arith, q))
-    (λ some. readIf-other (eqb (lmVersion s) 3) 10 5 _ place (λ q. omega (arith, q))
-    (λ three. readIf-other (leb (lmSubtype s) 2) 11 0 _ place (λ q. omega (arith, q))
-    (λ subtype. decode-other s room (leb-true (length s) 65535 most) l place))))
+lm-never s room l refusal =
+    readIf-other (leb (length s) 65535) 13 0 _ refusal (λ q. omega (arith, q))
+    (λ most. readIf-other (leb 1 (length s)) 2 0 _ refusal (λ q. omega (arith, q))
+    (λ some. readIf-other (eqb (lmVersion s) 3) 10 5 _ refusal (λ q. omega (arith, q))
+    (λ three. readIf-other (leb (lmSubtype s) 2) 11 0 _ refusal (λ q. omega (arith, q))
+    (λ subtype. decode-other s room (leb-true (length s) 65535 most) l refusal))))

@@ -10,6 +10,7 @@ use lib.IntN.{ℤ, pos}
 use lib.ListN.{length, length-append, length-map}
 use lib.Seq.{getD-append-seam}
 use borrow.Author.Tests.{leb-true}
+use Rattle.answer.specs.Numbers.{refusalAt}
 use Rattle.octets.specs.Numbers.{u16, u16s}
 use Rattle.bits.specs.Bits.{unpack}
 use Rattle.bits.proofs.Bits.{length-unpack}
@@ -76,10 +77,10 @@ taken-read p q b room at vs n r e = go (readItems p b room at) refl (sym (read-t
   where
     behind : (us : List ℤ) (x : Reading) → prepend us x ≡ done vs n r → (ws : List ℤ) × (us ++ ws ≡ vs)
     behind us (done ws m s) e = (ws, cc)
-    behind us (stuck m a) e = let z : _≡_ {A = ℕ} 0 1 = cc in absurd (omega arith)
+    behind us (stuck refusal) e = let z : _≡_ {A = ℕ} 0 1 = cc in absurd (omega arith)
 
     go : (x : Reading) → readItems p b room at ≡ x → bind room x (readItems q) ≡ done vs n r → walkCount (forget x) ≡ taken p vs
-    go (stuck m a) q e = let z : _≡_ {A = ℕ} 0 1 = cc in absurd (omega arith)
+    go (stuck refusal) q e = let z : _≡_ {A = ℕ} 0 1 = cc in absurd (omega arith)
     go (done us m s) f e =
         let w = behind us (readItems q s (room - length us) m) e in
         sym (taken-append p us (w .0) (read-sound p b room at us m s f .allowed)) ∙ ap (taken p) (w .1)
@@ -125,10 +126,10 @@ readIf-inv false n p x e = (cc, cc)
 
 module _ (s : List ℕ) (vs : List ℤ) (n : ℕ) where
   reading-inv : (x : Reading) → closeRead (length s) x ≡ accept vs n → (at : ℕ) × (r : List Bool) × (x ≡ done vs at r)
-  reading-inv (stuck m at) e = let z : _≡_ {A = ℕ} 0 1 = cc in absurd (omega arith)
+  reading-inv (stuck refusal) e = let z : _≡_ {A = ℕ} 0 1 = cc in absurd (omega arith)
   reading-inv (done us at r) e = (at, r, ap (λ us. done us at r) (test (eqb (length s) (size at) && allZero r) e))
     where
-      test : (t : Bool) → cond t (accept us at) (refuse 9 at) ≡ accept vs n → us ≡ vs
+      test : (t : Bool) → cond t (accept us at) (refuse (refusalAt 9 at)) ≡ accept vs n → us ≡ vs
       test true e = cc
       test false e = cc
 

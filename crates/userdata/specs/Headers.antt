@@ -14,7 +14,7 @@ use Rattle.userdata.specs.UserData.{enough, headers, foundAt}
 -- how many values a walk has, 0 where it is blocked
 abbrev pub walkCount : Walk → ℕ
 walkCount (walked vs at) = length vs
-walkCount (blocked number place) = 0
+walkCount (blocked refusal) = 0
 
 unfoldable pub headerCount : List ℕ → ℕ
 headerCount s = walkCount (walk headers (unpack s) enough 0)

@@ -5,6 +5,7 @@ use mathlib.Core.Path.{_≡_}
 use mathlib.Core.Logic.{_↔_, _≢_}
 use mathlib.Core.List.{List}
 use lib.ListN.{length}
+use Rattle.answer.specs.declared.Refusal.{Refusal}
 use Rattle.answer.specs.Numbers.{noRoom}
 use Rattle.items.specs.Reading.{refuse}
 use Rattle.encoding.specs.Demand3.{Message}
@@ -29,4 +30,4 @@ pub record UserDataPlaced : Type 0 where
   -- any room from `enough` on gives the same outcome
   pub room : (s : List ℕ) (room : ℕ) → enough ≤ room → readLmOutcome s room ≡ readLmOutcome s enough
   -- and refusal 8 does not occur
-  pub never : (s : List ℕ) (room place : ℕ) → enough ≤ room → readLmOutcome s room ≢ refuse noRoom place
+  pub never : (s : List ℕ) (room : ℕ) → enough ≤ room → (refusal : Refusal) → readLmOutcome s room ≡ refuse refusal → refusal .number ≢ noRoom

@@ -5,6 +5,7 @@ use Prim.Native.Nat.{ℕ, suc, _-_}
 use mathlib.Core.List.{List, [], _∷_}
 use lib.IntN.{ℤ, pos}
 use lib.ListN.{length, getD, take, drop}
+use Rattle.answer.specs.Numbers.{refusalAt}
 use Rattle.item.specs.Code.{natural}
 use Rattle.items.specs.Items.{Items, stop, ask, _then_}
 use Rattle.encoding.specs.Rows.{items}
@@ -38,12 +39,12 @@ abbrev pub foundAt : ℕ → ℕ → Found
 foundAt start length = At (record { start = record { 0 = start }; length = record { 0 = length } })
 
 abbrev pub notFound : ℕ → ℕ → Found
-notFound number place = Refused (record { number = number; place = place })
+notFound number place = Refused (refusalAt number place)
 
 -- where it stands in a message of n octets, by the outcome of reading: it comes last
 abbrev pub foundIn : ℕ → ReadOutcome → Found
 foundIn n (accept vs bits) = foundAt (n - dataLength vs) (dataLength vs)
-foundIn n (refuse number place) = notFound number place
+foundIn n (refuse refusal) = Refused refusal
 
 -- the call that says where
 unfoldable pub userDataFound : List ℕ → Found

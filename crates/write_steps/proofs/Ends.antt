@@ -12,11 +12,11 @@ use lib.IntN.{ℤ}
 use lib.ListN.{length, getD, take, drop, replicate, length-append, length-replicate}
 use lib.Seq.{take-at, length-take-le, take-append-le, getD-take}
 use borrow.Author.Tests.{ltb-true, ltb-false, eqb-true, eqb-false, lt-leb}
+use Rattle.answer.specs.Numbers.{refusalAt, accepted, refused}
 use Rattle.bits.specs.Bits.{bitsOf, unpack, pack}
 use Rattle.bits.specs.Access.{overwritten}
 use Rattle.bits.proofs.Bits.{length-unpack, length-pack, pack-unpack, unpack-take}
 use Rattle.bits.proofs.Access.{overwritten-inside, overwritten-overwritten}
-use Rattle.answer.specs.Numbers.{accepted, refused}
 use Rattle.answer.specs.declared.Answer.the-variants.{Refused}
 use Rattle.answer.specs.declared.Refusal.{Refusal}
 use Rattle.items.specs.Items.{Items}
@@ -102,7 +102,7 @@ module _ (p : Items) (vs : List ℤ) (old mid : List ℕ) (step : Step) (most : 
     where
       go : (s : Spell) → Agrees 0 old mid step s → (Refused refusal ≡ writeAnswer (closeSpell (length vs) (length old) s)) × WrittenBy (closeSpell (length vs) (length old) s) mid
       go (spelled b i) a = let z : _≡_ {A = ℕ} 0 1 = cc (a .answer) in absurd (omega arith)
-      go (barred n i) a = let q : StepRefused (record { number = n; place = i }) ≡ StepRefused refusal = sym (a .answer) ∙ e in (cc, tt)
+      go (barred by) a = let q : StepRefused by ≡ StepRefused refusal = sym (a .answer) ∙ e in (cc, tt)
 
   -- where the root ends
   pub record Ends (c : Cursor) : Type 0 where
@@ -116,7 +116,7 @@ module _ (p : Items) (vs : List ℤ) (old mid : List ℕ) (step : Step) (most : 
   root-ends c e = go (spell p vs (8 * length old) 0) refl (by-spell (spell p vs (8 * length old) 0) refl) (spell-within p vs (8 * length old) 0)
     where
       go : (s : Spell) → spell p vs (8 * length old) 0 ≡ s → Agrees 0 old mid step s → Within (8 * length old) s → Ends c
-      go (barred n i) q a w = let z : _≡_ {A = ℕ} 0 1 = cc (a .answer) in absurd (omega arith)
+      go (barred refusal) q a w = let z : _≡_ {A = ℕ} 0 1 = cc (a .answer) in absurd (omega arith)
       go (spelled b i) q a w =
           let ec : cursorAt (0 + length b) i ≡ c = (let y : Past (cursorAt (0 + length b) i) ≡ Past c = sym (a .answer) ∙ e in cc) in
           let ei : c .index ≡ i = sym (ap (λ (x : Cursor). x .index) ec) in
@@ -138,8 +138,8 @@ module _ (p : Items) (vs : List ℤ) (old mid : List ℕ) (step : Step) (most : 
 
       go : (t : Bool) → ltb (c .index) (length vs) ≡ t → (u : Bool) → eqb (length old) 0 ≡ u
           → (cond t (refused 12 (c .index)) (cond u (refused 8 (length vs)) (accepted 0 0 (size (c .place .0))))
-          ≡ writeAnswer (cond t (unwritten 12 (c .index)) (cond u (unwritten 8 (length vs)) (written (padded (x .bits))))))
-          × WrittenBy (cond t (unwritten 12 (c .index)) (cond u (unwritten 8 (length vs)) (written (padded (x .bits))))) new
+          ≡ writeAnswer (cond t (unwritten (refusalAt 12 (c .index))) (cond u (unwritten (refusalAt 8 (length vs))) (written (padded (x .bits))))))
+          × WrittenBy (cond t (unwritten (refusalAt 12 (c .index))) (cond u (unwritten (refusalAt 8 (length vs))) (written (padded (x .bits))))) new
       go true e u q = (refl, tt)
       go false e true q = (refl, tt)
       go false e false q =
@@ -153,7 +153,7 @@ module _ (p : Items) (vs : List ℤ) (old mid : List ℕ) (step : Step) (most : 
 -- ── the output ──
 
 close-same : (n a b : ℕ) (s : Spell) → eqb a 0 ≡ eqb b 0 → closeSpell n a s ≡ closeSpell n b s
-close-same n a b (barred number i) e = refl
+close-same n a b (barred refusal) e = refl
 close-same n a b (spelled x i) e = rw e
 
 zero-same : (a b : ℕ) → (a ≡ 0 → b ≡ 0) → (b ≡ 0 → a ≡ 0) → eqb a 0 ≡ eqb b 0
@@ -176,15 +176,15 @@ counted-output p vs n most e =
 
 pub written-is : (x : WriteOutcome) → writtenCount (writeAnswer x) ≡ length (writeOctets x)
 written-is (written s) = refl
-written-is (unwritten n i) = refl
+written-is (unwritten refusal) = refl
 
 pub written-fits : (x : WriteOutcome) (new : List ℕ) → WrittenBy x new → length (writeOctets x) ≤ length new
 written-fits (written s) new h = h .0
-written-fits (unwritten n i) new h = omega arith
+written-fits (unwritten refusal) new h = omega arith
 
 -- what was written stands at the start of the whole output too, and zeros follow it
 pub settled-output : (x : WriteOutcome) (new rest : List ℕ) (n : ℕ) → length (new ++ rest) ≡ n → WrittenBy x new
     → take (length (writeOctets x)) (new ++ rest) ++ replicate (length (new ++ rest) - length (writeOctets x)) 0 ≡ outputAfter n x
 settled-output (written s) new rest n e h =
     ap₂ (λ front m. front ++ replicate (m - length s) 0) (take-append-le (length s) new rest (h .0) ∙ h .1) e
-settled-output (unwritten number i) new rest n e h = ap (λ m. replicate (m - 0) 0) e
+settled-output (unwritten refusal) new rest n e h = ap (λ m. replicate (m - 0) 0) e

@@ -10,6 +10,7 @@ use lib.Dec.{leb}
 use lib.IntN.{ℤ}
 use lib.ListN.{length, length-append}
 use borrow.Author.Tests.{leb-true, leb-false, le-leb, lt-leb}
+use Rattle.answer.specs.Numbers.{refusalAt}
 use Rattle.bits.specs.Bits.{unpack}
 use Rattle.bits.specs.Access.{overwritten}
 use Rattle.bits.proofs.Bits.{length-unpack}
@@ -37,7 +38,7 @@ length-put old mid place b e =
 module _ {old mid new : List ℕ} {place : ℕ} {step : Step} (b : List Bool)
     (fits : place + length b ≤ 8 * length old) (put : unpack mid ≡ overwritten (unpack old) place b) where
   after-bits : (s : Spell) → Within (8 * length old - place - length b) s → Agrees (place + length b) mid new step s → Agrees place old new step (following b s)
-  after-bits (barred number index) w a = record { answer = a .answer; output = tt }
+  after-bits (barred refusal) w a = record { answer = a .answer; output = tt }
   after-bits (spelled x index) w a =
       let l = length-append b x in
       let n : place + length b + length x ≡ place + length (b ++ x) = omega arith in
@@ -53,7 +54,7 @@ module _ {old mid new : List ℕ} {place : ℕ} {step : Step} (b : List Bool)
 then-writes : {list : List ℤ} {q : Items} {place : ℕ} {old mid new : List ℕ} {first step : Step} (s : Spell) (c : Cursor)
     → place ≤ 8 * length old → Within (8 * length old - place) s → Agrees place old mid first s → first ≡ Past c → Writes list q (stateAt c mid) new step
     → Agrees place old new step (next (8 * length old - place) s (spell q list))
-then-writes (barred number i) c h w a e r = let z : _≡_ {A = ℕ} 0 1 = cc (a .answer) in absurd (omega arith)
+then-writes (barred refusal) c h w a e r = let z : _≡_ {A = ℕ} 0 1 = cc (a .answer) in absurd (omega arith)
 then-writes {list} {q} {place} {old} {mid} {new} {first} {step} (spelled b i) c h w a e r =
     let ec : c ≡ cursorAt (place + length b) i = cc (a .answer) in
     let ep : c .place .0 ≡ place + length b = ap (λ x. x .place .0) ec in
@@ -69,7 +70,7 @@ then-writes {list} {q} {place} {old} {mid} {new} {first} {step} (spelled b i) c 
 stop-writes : {place : ℕ} {old new : List ℕ} {step : Step} {refusal : Refusal} (s : Spell) (room : ℕ) (f : ℕ → ℕ → Spell)
     → Agrees place old new step s → step ≡ Refused refusal → Agrees place old new step (next room s f)
 stop-writes (spelled b i) room f a e = let z : _≡_ {A = ℕ} 0 1 = cc (a .answer) in absurd (omega arith)
-stop-writes (barred number i) room f a e = record { answer = a .answer; output = tt }
+stop-writes (barred refusal) room f a e = record { answer = a .answer; output = tt }
 
 -- ── one item ──
 
@@ -95,7 +96,7 @@ module _ (c : Code) (k : ℤ → Items) (list : List ℤ) (from : State) (v : �
       → (new : List ℕ) → Agrees place old new (Refused refusal) (spell (ask c k) list room index)
   item-stuck refusal h e new = go (allows c v) refl (leb (place + length bits) (8 * length old)) refl
     where
-      barredBy : (n : ℕ) → spell (ask c k) list room index ≡ barred n index → Refused refusal ≡ refusedAt n index
+      barredBy : (n : ℕ) → spell (ask c k) list room index ≡ barred (refusalAt n index) → Refused refusal ≡ refusedAt n index
           → Agrees place old new (Refused refusal) (spell (ask c k) list room index)
       barredBy n s q = rw s (record { answer = q; output = tt })
 

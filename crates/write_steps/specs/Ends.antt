@@ -20,7 +20,7 @@ use Rattle.write_steps.specs.declared.Step.the-variants.{Past, Refused a
 -- an accepted outcome's octets stand at the output's start; a refusal leaves anything
 abbrev pub WrittenBy : WriteOutcome → List ℕ → Type 0
 WrittenBy (written s) new = (length s ≤ length new) × (take (length s) new ≡ s)
-WrittenBy (unwritten number index) new = Unit {0}
+WrittenBy (unwritten refusal) new = Unit {0}
 
 -- a step as an answer
 abbrev pub writerAnswer : Step → Answer

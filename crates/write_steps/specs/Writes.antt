@@ -7,7 +7,7 @@ use lib.IntN.{ℤ, pos}
 use lib.ListN.{length, getD}
 use Rattle.bits.specs.Bits.{unpack}
 use Rattle.bits.specs.Access.{placeAt, overwritten}
-use Rattle.answer.specs.Numbers.{wrongValue}
+use Rattle.answer.specs.Numbers.{wrongValue, refusalAt}
 use Rattle.answer.specs.declared.Refusal.{Refusal}
 use Rattle.item.specs.declared.Put.{Put}
 use Rattle.item.specs.declared.Put.the-variants.{Next, Unfit}
@@ -28,17 +28,17 @@ abbrev pub cursorAt : ℕ → ℕ → Cursor
 cursorAt place index = record { place = placeAt place; index = index }
 
 abbrev pub refusedAt : ℕ → ℕ → Step
-refusedAt number index = Refused (record { number = number; place = index })
+refusedAt number index = Refused (refusalAt number index)
 
 -- a spelling from a place on as the code answers it
 abbrev pub stepOf : ℕ → Spell → Step
 stepOf place (spelled b index) = Past (cursorAt (place + length b) index)
-stepOf place (barred number index) = refusedAt number index
+stepOf place (barred refusal) = Refused refusal
 
 -- the output that a spelling leaves: its bits in the place of those that stood there; after a refusal anything
 abbrev pub Stands : ℕ → Spell → List ℕ → List ℕ → Type 0
 Stands place (spelled b index) old new = unpack new ≡ overwritten (unpack old) place b
-Stands place (barred number index) old new = Unit {0}
+Stands place (barred refusal) old new = Unit {0}
 
 -- the code's step and the output that it leaves agree with a spelling
 pub record Agrees (place : ℕ) (old new : List ℕ) (step : Step) (s : Spell) : Type 0 where
@@ -72,7 +72,7 @@ Gives list index Missing = length list ≤ index
 
 -- the refusal of a value that is missing
 abbrev pub missingAt : ℕ → Refusal
-missingAt index = record { number = wrongValue; place = index }
+missingAt index = refusalAt wrongValue index
 
 -- a value that was put moves the cursor on; one that was not is refused at its index
 abbrev pub movedStep : Put → ℕ → ℕ → Step

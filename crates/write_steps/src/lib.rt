@@ -46,10 +46,7 @@ pub fn next_value(values: &[i64], packed: &[u8], index: usize) -> Given
 pub fn missing(index: usize) -> Refusal
     ensures { λ r. ⌜ r ≡ missingAt index ⌝ }
 {
-    Refusal {
-        number: Refusal::WRONG_VALUE,
-        place: index,
-    }
+    Refusal::new(Refusal::WRONG_VALUE, index)
 }
 
 // The cursor after a value that was put; or the refusal, at the value's index.
@@ -61,10 +58,7 @@ pub fn moved(put: Put, index: usize, after: usize) -> Step
             place,
             index: after,
         }),
-        Put::Unfit(number) => Step::Refused(Refusal {
-            number,
-            place: index,
-        }),
+        Put::Unfit(number) => Step::Refused(Refusal::new(number, index)),
     }
 }
 

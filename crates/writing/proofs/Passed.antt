@@ -27,4 +27,4 @@ write-broken t vs cap r refusal e a = go (verdict t) (sym e ∙ a) e
     go : (v : Verdict) → checked v ≡ Refused refusal → r ≡ checked v
         → (r ≡ writeAnswer (onPassed v (encode (asks t) vs cap))) × (writeOctets (onPassed v (encode (asks t) vs cap)) ≡ [])
     go passed q e = let z : _≡_ {A = ℕ} 0 1 = cc in absurd (omega arith)
-    go (broken n p) q e = (e, refl)
+    go (broken by) q e = (e, refl)

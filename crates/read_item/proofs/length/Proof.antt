@@ -1,7 +1,7 @@
 -- `read_item::length` meets its contract. Each way out is one outcome of the item; the ones of the first octet decide.
 use borrow.Author.Needs.{needs}
 use native.Mathlib.Omega.{arith}
-use mathlib.Core.Path.{_≡_, sym, _∙_}
+use mathlib.Core.Path.{_≡_, sym, ap, _∙_}
 use mathlib.Core.Bool.{Bool}
 use mathlib.Core.List.{List}
 use Prim.Native.Nat.{suc, _-_, _*_}
@@ -10,14 +10,16 @@ use Rattle.bits.specs.Bits.{unpack}
 use Rattle.bits.specs.declared.Fetched.the-variants.{Short}
 use Rattle.read_item.specs.Steps.{frontOf}
 use Rattle.read_item.proofs.Outcomes.{front-Bits, length-short, length-starts-11, length-cut, length-worth, length-long-form, length-is, length-one-octet}
+use Rattle.item.specs.declared.Item.the-variants.{Bad}
 use Rattle.read_item.proofs.length.Statement.{statement}
 use Rattle.read_item.proofs.length.Tie as tie
 
 returns : tie.Need-returns
-returns c =
+returns d =
+    let c = d .before in
     let a = c .before .before .before .before .args in
     let p = a .place .0 in
-    sym (length-short (a .least) (a .most) (drop p (unpack (a .message .now))) p (sym (c .before .before .octet-at .ensures) ∙ c .enum-told .given .1))
+    ap Bad (d .new .ensures) ∙ sym (length-short (a .least) (a .most) (drop p (unpack (a .message .now))) p (sym (c .before .before .octet-at .ensures) ∙ c .enum-told .given .1))
 
 ones-of-requires : tie.Need-ones-of-requires
 ones-of-requires c κs =
@@ -35,15 +37,17 @@ returns-2 c =
     ∙ sym (length-one-octet (a .least) (a .most) (drop p (unpack (a .message .now))) p e (s .ones-of .result) (s .ones-of .ensures) (c .before .if1 .taken))
 
 returns-3 : tie.Need-returns-3
-returns-3 c =
+returns-3 d =
+    let c = d .before in
     let s = c .before .before in
     let a = s .before .before .before .before .before .before .args in
     let p = a .place .0 in
     let e = sym (s .before .before .before .before .octet-at .ensures) ∙ s .before .before .f .given .1 in
-    sym (length-starts-11 (a .least) (a .most) (drop p (unpack (a .message .now))) p e (s .ones-of .result) (s .ones-of .ensures) (c .if2 .taken))
+    ap Bad (d .new2 .ensures) ∙ sym (length-starts-11 (a .least) (a .most) (drop p (unpack (a .message .now))) p e (s .ones-of .result) (s .ones-of .ensures) (c .if2 .taken))
 
 returns-4 : tie.Need-returns-4
-returns-4 c =
+returns-4 d =
+    let c = d .before in
     let s = c .before .before .before .before .before .before in
     let a = s .before .before .before .before .before .before .args in
     let p = a .place .0 in
@@ -51,7 +55,7 @@ returns-4 c =
     let e = sym (s .before .before .before .before .octet-at .ensures) ∙ s .before .before .f .given .1 in
     let k = c .before .before .before .after-ones .ensures .0 in
     let g : frontOf b p (8 * suc (s .ones-of .result)) ≡ Short = rw k at (sym (c .before .before .bits-at .ensures) ∙ c .enum-told2 .given .1) in
-    sym (length-cut (a .least) (a .most) b p e (s .ones-of .result) (s .ones-of .ensures) (omega arith) g)
+    ap Bad (d .new3 .ensures) ∙ sym (length-cut (a .least) (a .most) b p e (s .ones-of .result) (s .ones-of .ensures) (omega arith) g)
 
 sub-if3 : tie.Need-sub-if3
 sub-if3 c =
@@ -64,14 +68,15 @@ sub-if3 c =
     (sym (g .before .before .bits-at .ensures) ∙ g .g .given .1)
 
 returns-5 : tie.Need-returns-5
-returns-5 c =
+returns-5 d =
+    let c = d .before in
     let g = c .before .before .before in
     let s = g .before .before .before .before .before .before in
     let a = s .before .before .before .before .before .before .args in
     let p = a .place .0 in
     let e = sym (s .before .before .before .before .octet-at .ensures) ∙ s .before .before .f .given .1 in
     let one : s .ones-of .result ≡ 1 = omega (arith, g .before .before .before .before .before .if1 .left) in
-    sym (length-long-form (a .least) (a .most) (drop p (unpack (a .message .now))) p e (s .ones-of .result) (s .ones-of .ensures) (omega arith) (g .before .before .before .after-ones .ensures)
+    ap Bad (d .new4 .ensures) ∙ sym (length-long-form (a .least) (a .most) (drop p (unpack (a .message .now))) p e (s .ones-of .result) (s .ones-of .ensures) (omega arith) (g .before .before .before .after-ones .ensures)
     (sym (g .before .before .bits-at .ensures) ∙ g .g .given .1) (rw one (c .if3 .taken)))
 
 returns-6 : tie.Need-returns-6
@@ -93,17 +98,21 @@ length-spec =
     (λ c κs. search needs)
     (λ c. search needs)
     (λ c. search needs)
+    (λ c κs. search needs)
     returns
     ones-of-requires
     (λ c κs. search needs)
     returns-2
+    (λ c κs. search needs)
     returns-3
     (λ c κs. search needs)
     (λ c κs. search needs)
     (λ c. search needs)
     (λ c. search needs)
+    (λ c κs. search needs)
     returns-4
     sub-if3
+    (λ c κs. search needs)
     returns-5
     (λ c. search needs)
     (λ c κs. search needs)

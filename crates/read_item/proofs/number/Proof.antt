@@ -10,28 +10,30 @@ use Rattle.bits.specs.declared.Fetched.the-variants.{Bits, Short}
 use Rattle.read_item.specs.Steps.{frontOf}
 use Rattle.item.proofs.Integers.{sum-fits, sum-is}
 use Rattle.read_item.proofs.Outcomes.{number-short, number-over, number-is}
-use Rattle.item.specs.declared.Item.the-variants.{Value}
+use Rattle.item.specs.declared.Item.the-variants.{Value, Bad}
 use Rattle.read_item.proofs.number.Statement.{statement}
 use Rattle.read_item.proofs.number.Tie as tie
 
 returns : tie.Need-returns
-returns c =
+returns d =
+    let c = d .before in
     let a = c .before .before .before .before .before .args in
     let p = a .place .0 in
     let b : List Bool = drop p (unpack (a .message .now)) in
     let w = c .before .before .before .width .ensures .0 in
     let e : frontOf b p (width (a .span)) ≡ Short = rw w at (sym (c .before .before .bits-at .ensures) ∙ c .enum-told .given .1) in
-    sym (number-short (a .low) (a .span) b p e)
+    ap Bad (d .new .ensures) ∙ sym (number-short (a .low) (a .span) b p e)
 
 returns-2 : tie.Need-returns-2
-returns-2 c =
+returns-2 d =
+    let c = d .before in
     let a = c .before .before .before .before .before .before .before .args in
     let p = a .place .0 in
     let b : List Bool = drop p (unpack (a .message .now)) in
     let f = c .before .before .f .given in
     let w = c .before .before .before .before .before .width .ensures .0 in
     let e : frontOf b p (width (a .span)) ≡ Bits (f .0 .0) (f .0 .1 .0) = rw w at (sym (c .before .before .before .before .bits-at .ensures) ∙ f .1) in
-    sym (number-over (a .low) (a .span) b p e (c .if1 .taken))
+    ap Bad (d .new2 .ensures) ∙ sym (number-over (a .low) (a .span) b p e (c .if1 .taken))
 
 add-value : tie.Need-add-value
 add-value c =
@@ -57,7 +59,9 @@ number-spec =
     (λ c κs. search needs)
     (λ c. search needs)
     (λ c. search needs)
+    (λ c κs. search needs)
     returns
+    (λ c κs. search needs)
     returns-2
     (λ c. search needs)
     add-value

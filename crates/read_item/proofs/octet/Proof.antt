@@ -13,16 +13,17 @@ use Rattle.bits.specs.Bits.{width, unpack}
 use Rattle.bits.specs.declared.Fetched.the-variants.{Bits}
 use Rattle.read_item.specs.Steps.{frontOf}
 use Rattle.read_item.proofs.Outcomes.{front-Bits, number-short, number-is}
-use Rattle.item.specs.declared.Item.the-variants.{Value}
+use Rattle.item.specs.declared.Item.the-variants.{Value, Bad}
 use Rattle.read_item.proofs.octet.Statement.{statement}
 use Rattle.read_item.proofs.octet.Tie as tie
 
 returns : tie.Need-returns
 unfolding width
-returns c =
+returns d =
+    let c = d .before in
     let a = c .before .before .before .before .args in
     let p = a .place .0 in
-    sym (number-short (pos 0) 255 (drop p (unpack (a .message .now))) p (sym (c .before .before .octet-at .ensures) ∙ c .enum-told .given .1))
+    ap Bad (d .new .ensures) ∙ sym (number-short (pos 0) 255 (drop p (unpack (a .message .now))) p (sym (c .before .before .octet-at .ensures) ∙ c .enum-told .given .1))
 
 returns-2 : tie.Need-returns-2
 unfolding width
@@ -39,4 +40,4 @@ returns-2 c =
 
 pub octet-spec : {M : Type 1} → statement M
 octet-spec =
-    tie.close (tie.spec (λ c κs. search needs) (λ c. search needs) (λ c. search needs) returns (λ c. search needs) returns-2)
+    tie.close (tie.spec (λ c κs. search needs) (λ c. search needs) (λ c. search needs) (λ c κs. search needs) returns (λ c. search needs) returns-2)

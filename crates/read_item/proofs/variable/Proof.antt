@@ -13,15 +13,16 @@ use Rattle.bits.specs.declared.Fetched.the-variants.{Bits, Short}
 use Rattle.item.specs.Code.{base}
 use Rattle.read_item.specs.Steps.{frontOf}
 use Rattle.read_item.proofs.Outcomes.{front-Bits, variable-short, variable-starts-1111, variable-cut, variable-is, variable-one-octet}
-use Rattle.item.specs.declared.Item.the-variants.{Value}
+use Rattle.item.specs.declared.Item.the-variants.{Value, Bad}
 use Rattle.read_item.proofs.variable.Statement.{statement}
 use Rattle.read_item.proofs.variable.Tie as tie
 
 returns : tie.Need-returns
-returns c =
+returns d =
+    let c = d .before in
     let a = c .before .before .before .before .args in
     let p = a .place .0 in
-    sym (variable-short (drop p (unpack (a .message .now))) p (sym (c .before .before .octet-at .ensures) ∙ c .enum-told .given .1))
+    ap Bad (d .new .ensures) ∙ sym (variable-short (drop p (unpack (a .message .now))) p (sym (c .before .before .octet-at .ensures) ∙ c .enum-told .given .1))
 
 ones-of-requires : tie.Need-ones-of-requires
 ones-of-requires c κs =
@@ -41,15 +42,17 @@ returns-2 c =
     ∙ sym (variable-one-octet b p e (c .before .ones-of .result) (c .before .ones-of .ensures) (c .if1 .taken))
 
 returns-3 : tie.Need-returns-3
-returns-3 c =
+returns-3 d =
+    let c = d .before in
     let a = c .before .before .before .before .before .before .before .before .args in
     let p = a .place .0 in
     let b : List Bool = drop p (unpack (a .message .now)) in
     let e = sym (c .before .before .before .before .before .before .octet-at .ensures) ∙ c .before .before .before .before .f .given .1 in
-    sym (variable-starts-1111 b p e (c .before .before .ones-of .result) (c .before .before .ones-of .ensures) (c .if2 .taken))
+    ap Bad (d .new2 .ensures) ∙ sym (variable-starts-1111 b p e (c .before .before .ones-of .result) (c .before .before .ones-of .ensures) (c .if2 .taken))
 
 returns-4 : tie.Need-returns-4
-returns-4 c =
+returns-4 d =
+    let c = d .before in
     let s = c .before .before .before .before .before .before in
     let a = s .before .before .before .before .before .before .args in
     let p = a .place .0 in
@@ -57,10 +60,10 @@ returns-4 c =
     let e = sym (s .before .before .before .before .octet-at .ensures) ∙ s .before .before .f .given .1 in
     let k = c .before .before .before .after-ones .ensures .0 in
     let g : frontOf b p (8 * suc (s .ones-of .result)) ≡ Short = rw k at (sym (c .before .before .bits-at .ensures) ∙ c .enum-told2 .given .1) in
-    sym (variable-cut b p e (s .ones-of .result) (s .ones-of .ensures) (omega arith) g)
+    ap Bad (d .new3 .ensures) ∙ sym (variable-cut b p e (s .ones-of .result) (s .ones-of .ensures) (omega arith) g)
 
-sub-t13 : tie.Need-sub-t13
-sub-t13 c =
+sub-t16 : tie.Need-sub-t16
+sub-t16 c =
     let g = c .before .before in
     let s = g .before .before .before .before .before .before in
     let a = s .before .before .before .before .before .before .args in
@@ -69,8 +72,8 @@ sub-t13 c =
     variable-is (drop p (unpack (a .message .now))) p e (s .ones-of .result) (s .ones-of .ensures) (omega arith) (g .before .before .before .after-ones .ensures)
     (sym (g .before .before .bits-at .ensures) ∙ g .g .given .1) .0
 
-add-t14 : tie.Need-add-t14
-add-t14 c =
+add-t17 : tie.Need-add-t17
+add-t17 c =
     let g = c .before .before .before in
     let s = g .before .before .before .before .before .before in
     let a = s .before .before .before .before .before .before .args in
@@ -100,17 +103,20 @@ variable-spec =
     (λ c κs. search needs)
     (λ c. search needs)
     (λ c. search needs)
+    (λ c κs. search needs)
     returns
     ones-of-requires
     (λ c. search needs)
     returns-2
+    (λ c κs. search needs)
     returns-3
     (λ c κs. search needs)
     (λ c κs. search needs)
     (λ c. search needs)
     (λ c. search needs)
+    (λ c κs. search needs)
     returns-4
-    sub-t13
-    add-t14
+    sub-t16
+    add-t17
     (λ c. search needs)
     returns-5)

@@ -1,14 +1,17 @@
 -- `read_steps::kept` meets its contract. By the item, and by the room.
 -- Assumes nothing.
 use borrow.Author.Tests.{le-leb, lt-leb}
-use mathlib.Core.Path.{refl}
+use mathlib.Core.Path.{refl, ap}
 use Rattle.item.proofs.Naturals.{held}
+use Rattle.read_steps.specs.declared.Step.the-variants.{Refused}
 use borrow.Author.Needs.{needs}
 use Rattle.read_steps.proofs.kept.Statement.{statement}
 use Rattle.read_steps.proofs.kept.Tie as tie
 
 returns : tie.Need-returns
-returns c = rw (c .before .before .item2 .given .1, le-leb _ _ (c .if1 .taken)) (refl, refl, refl)
+returns d =
+    let c = d .before in
+    rw (c .before .before .item2 .given .1, le-leb _ _ (c .if1 .taken)) (ap Refused (d .new .ensures), refl, refl)
 
 returns-2 : tie.Need-returns-2
 returns-2 c = rw (c .before .item .given .1) (refl, refl, refl)
@@ -27,6 +30,7 @@ kept-spec =
     (tie.spec
     (λ c. search needs)
     (λ c. search needs)
+    (λ c κs. search needs)
     returns
     (λ c κs. search needs)
     (λ c. search needs)
