@@ -6,7 +6,7 @@
 -- The theorems here are about the definitions that those contracts cite (readCall, writeCall, valuesAfter, packedAfter,
 -- outputAfter, readLmCall, writeLmCall, userDataFound, verdict) and about document 01's rules, which mention no code.
 --
--- Beside it stands what is said of the bench program's text: OneText, in bench's specs/Program.antt.
+-- Beside it stands what is said of the bench program's text: OneText, in stream's specs/Program.antt.
 use Prim.Native.Nat.{ℕ}
 use mathlib.Core.List.{List}
 use Rattle.bits.specs.Width.{SmallestWidth}

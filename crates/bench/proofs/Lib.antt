@@ -1,4 +1,0 @@
-mod AtHand
-mod OneText
-mod Runs
-mod Tags

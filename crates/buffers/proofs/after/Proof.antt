@@ -1,0 +1,10 @@
+-- `buffers::after` meets its contract.
+use borrow.Author.Needs.{needs}
+use Rattle.buffers.proofs.after.Statement.{statement}
+use Rattle.buffers.proofs.after.Tie as tie
+
+returns : tie.Need-returns
+returns c = rw (c .before .sum .ensures, c .sum2 .ensures)
+
+pub after-spec : {M : Type 1} → statement M
+after-spec = tie.close (tie.spec (λ c. search needs) (λ c κs. search needs) (λ c κs. search needs) returns)

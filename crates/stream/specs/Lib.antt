@@ -1,0 +1,2 @@
+pub mod LastLines
+pub mod Program
