@@ -9,6 +9,7 @@ use lib.Dec.{leb, eqb}
 use lib.IntN.{ℤ, pos, negsuc}
 use lib.ListN.{length, getD}
 use borrow.Author.Tests.{eqb-true}
+use Rattle.answer.specs.declared.Refusal.{Refusal}
 use Rattle.item.specs.Code.{ofNatural}
 use Rattle.items.specs.Items.{Allows, encodingBits}
 use Rattle.encoding.specs.Rows.{asks}
@@ -50,9 +51,9 @@ stands s l room h fits = record {
   version = version-value l ∙ ap pos (h .version);
 }
 
-writeIf-inv : (t : Bool) (n i : ℕ) (x : WriteOutcome) {s : List ℕ} → writeIf t n i x ≡ written s → (t ≡ true) × (x ≡ written s)
-writeIf-inv true n i x e = (refl, e)
-writeIf-inv false n i x e = (cc, cc)
+writeIf-inv : (t : Bool) (refusal : Refusal) (x : WriteOutcome) {s : List ℕ} → writeIf t refusal x ≡ written s → (t ≡ true) × (x ≡ written s)
+writeIf-inv true refusal x e = (refl, e)
+writeIf-inv false refusal x e = (cc, cc)
 
 is-three : (v : ℤ) → ofNatural (λ n. eqb n 3) v ≡ true → v ≡ pos 3
 is-three (pos n) h = ap pos (eqb-true n 3 h)
@@ -80,9 +81,9 @@ module _ (s : List ℕ) (m : Message s) (room : ℕ) (vs : List ℤ) (n : ℕ) w
 written-laid : (vs : List ℤ) (cap : ℕ) (s : List ℕ) → writeLmOutcome vs cap ≡ written s → (l : Lm) × LaidOut s l × (valuesOf l ≡ vs)
 unfolding writeLmOutcome
 written-laid vs cap s e =
-    let a = writeIf-inv (leb 3 (length vs)) _ (length vs) _ e in
-    let b = writeIf-inv (ofNatural (λ n. eqb n 3) (getD vs 2 (pos 0))) _ 2 _ (a .1) in
-    let c = writeIf-inv (ofNatural (λ n. leb n 2) (getD vs 0 (pos 0))) _ 0 _ (b .1) in
+    let a = writeIf-inv (leb 3 (length vs)) _ _ e in
+    let b = writeIf-inv (ofNatural (λ n. eqb n 3) (getD vs 2 (pos 0))) _ _ (a .1) in
+    let c = writeIf-inv (ofNatural (λ n. leb n 2) (getD vs 0 (pos 0))) _ _ (b .1) in
     let w = encode-sound (asks lm) vs cap s (c .1) in
     laid-out vs s (w .allowed) (w .octets) (is-three (getD vs 2 (pos 0)) (b .0))
 

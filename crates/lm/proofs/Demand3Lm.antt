@@ -9,6 +9,7 @@ use lib.Dec.{leb, eqb}
 use lib.IntN.{ℤ, pos}
 use lib.ListN.{length, getD, length-append, length-replicate}
 use borrow.Author.Tests.{le-leb, eqb-true, eq-eqb}
+use Rattle.answer.specs.declared.Refusal.{Refusal}
 use Rattle.bits.specs.Bits.{bitsOf, unpack}
 use Rattle.bits.proofs.Bits.{length-pack, unpack-pack}
 use Rattle.table.specs.Verdict.{checked}
@@ -64,9 +65,9 @@ module _ (s : List ℕ) (room : ℕ) (vs : List ℤ) (stands : Stands (asks lm) 
   three-values = omega (arith, ap length (firsts .values))
 
 -- what passes the tests is read as under the table
-readIf-inv : (t : Bool) (n p : ℕ) (x : ReadOutcome) {vs : List ℤ} {m : ℕ} → readIf t n p x ≡ accept vs m → (t ≡ true) × (x ≡ accept vs m)
-readIf-inv true n p x e = (refl, e)
-readIf-inv false n p x e = (cc, cc)
+pub readIf-inv : (t : Bool) (refusal : Refusal) (x : ReadOutcome) {vs : List ℤ} {m : ℕ} → readIf t refusal x ≡ accept vs m → (t ≡ true) × (x ≡ accept vs m)
+readIf-inv true refusal x e = (refl, e)
+readIf-inv false refusal x e = (cc, cc)
 
 module _ (s : List ℕ) (message : Message s) (room : ℕ) (vs : List ℤ) where
   pub stands-read : StandsLm s room vs → readLmOutcome s room ≡ accept vs (length (encodingBits (asks lm) vs))
@@ -85,10 +86,10 @@ module _ (s : List ℕ) (message : Message s) (room : ℕ) (vs : List ℤ) where
   pub read-stands : (n : ℕ) → readLmOutcome s room ≡ accept vs n → StandsLm s room vs
   unfolding readLmOutcome
   read-stands n e =
-      let c = readIf-inv (leb (length s) 65535) _ 0 _ e in
-      let d = readIf-inv (leb 1 (length s)) _ 0 _ (c .1) in
-      let f = readIf-inv (eqb (lmVersion s) 3) _ 5 _ (d .1) in
-      let g = readIf-inv (leb (lmSubtype s) 2) _ 0 _ (f .1) in
+      let c = readIf-inv (leb (length s) 65535) _ _ e in
+      let d = readIf-inv (leb 1 (length s)) _ _ (c .1) in
+      let f = readIf-inv (eqb (lmVersion s) 3) _ _ (d .1) in
+      let g = readIf-inv (leb (lmSubtype s) 2) _ _ (f .1) in
       let a = decode-stands (asks lm) s room vs n message (g .1) in
       record { stands = a; version = third s room vs a ∙ ap pos (eqb-true (lmVersion s) 3 (f .0)) }
 

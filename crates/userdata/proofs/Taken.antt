@@ -10,6 +10,7 @@ use lib.IntN.{ℤ, pos}
 use lib.ListN.{length, length-append, length-map}
 use lib.Seq.{getD-append-seam}
 use borrow.Author.Tests.{leb-true}
+use Rattle.lm.proofs.Demand3Lm.{readIf-inv}
 use Rattle.answer.specs.Numbers.{refusalAt}
 use Rattle.octets.specs.Numbers.{u16, u16s}
 use Rattle.bits.specs.Bits.{unpack}
@@ -120,10 +121,6 @@ pub record Read (s : List ℕ) (vs : List ℤ) : Type 0 where
   pub count : length vs ≡ headerCount s + suc (dataLength vs)
   pub within : dataLength vs ≤ length s
 
-readIf-inv : (t : Bool) (n p : ℕ) (x : ReadOutcome) {vs : List ℤ} {m : ℕ} → readIf t n p x ≡ accept vs m → (t ≡ true) × (x ≡ accept vs m)
-readIf-inv true n p x e = (refl, e)
-readIf-inv false n p x e = (cc, cc)
-
 module _ (s : List ℕ) (vs : List ℤ) (n : ℕ) where
   reading-inv : (x : Reading) → closeRead (length s) x ≡ accept vs n → (at : ℕ) × (r : List Bool) × (x ≡ done vs at r)
   reading-inv (stuck refusal) e = let z : _≡_ {A = ℕ} 0 1 = cc in absurd (omega arith)
@@ -157,9 +154,9 @@ module _ (s : List ℕ) (vs : List ℤ) (n : ℕ) where
   pub read-is : readLmOutcome s enough ≡ accept vs n → Read s vs
   unfolding readLmOutcome
   read-is e =
-      let c = readIf-inv (leb (length s) 65535) _ 0 _ e in
-      let d = readIf-inv (leb 1 (length s)) _ 0 _ (c .1) in
-      let f = readIf-inv (eqb (lmVersion s) 3) _ 5 _ (d .1) in
-      let g = readIf-inv (leb (lmSubtype s) 2) _ 0 _ (f .1) in
+      let c = readIf-inv (leb (length s) 65535) _ _ e in
+      let d = readIf-inv (leb 1 (length s)) _ _ (c .1) in
+      let f = readIf-inv (eqb (lmVersion s) 3) _ _ (d .1) in
+      let g = readIf-inv (leb (lmSubtype s) 2) _ _ (f .1) in
       let x = decoded s refl (g .1) in
       read-values (leb-true (length s) 65535 (c .0)) (x .0) (x .1) (x .2)

@@ -9,7 +9,7 @@ use Rattle.lines.proofs.put_refusal.Tie as tie
 returns : tie.Need-returns
 unfolding refusedLine
 returns c =
-    let a = c .before .before .before .before .before .before .before .before .before .before .before .put-text in
+    let a = c .before .before .before .before .before .before .before .before .before .before .before .before .put-text in
     let b = c .before .before .before .before .before .before .before .put-number in
     let d = c .before .before .put-line in (
       put-both (a .ensures) (put-both (b .ensures .0) (d .ensures .0)),
@@ -17,4 +17,4 @@ returns c =
     )
 
 pub put-refusal-spec : {M : Type 1} → statement M
-put-refusal-spec = tie.close (tie.spec (λ c. search needs) (λ c κs. search needs) (λ c κs. search needs) (λ c. search needs) (λ c κs. search needs) (λ c. search needs) returns)
+put-refusal-spec = tie.close (tie.spec (λ c. search needs) (λ c κs. search needs) (λ c. search needs) (λ c κs. search needs) (λ c. search needs) (λ c κs. search needs) (λ c. search needs) returns)
