@@ -9,11 +9,11 @@ ghost use Prim.Native.Nat.{_+_, _-_, _*_, _%_, _<_, _≤_, _^_};
 ghost use lib.Dec.{leb};
 ghost use lib.ListN.{length, take, drop};
 ghost use Rattle.bits.specs.Bits.{numberOf, bitsOf, unpack};
-ghost use Rattle.bits.specs.Access.{fetched, stored, overwritten};
+ghost use Rattle.bits.specs.Access.{mostOctets, fetched, stored, overwritten};
 
 // Whether the k bits from a place on lie within so many octets. They do where four octets follow the place's.
 fn inside(octets: usize, place: BitPlace, k: u32) -> bool
-    requires { ⌜ (octets ≤ 65535) × (k ≤ 32) ⌝ }
+    requires { ⌜ (octets ≤ mostOctets) × (k ≤ 32) ⌝ }
     ensures { λ r. ⌜ r ≡ leb (place .0 + k) (8 * octets) ⌝ }
 {
     let from = place.0;
@@ -39,7 +39,7 @@ fn bits_behind(place: BitPlace, k: u32) -> u32
 
 // The k bits from a place on, as a number.
 pub fn fetch(message: &[u8], place: BitPlace, k: u32) -> Fetched
-    requires { ⌜ (length (now message) ≤ 65535) × (k ≤ 32) ⌝ }
+    requires { ⌜ (length (now message) ≤ mostOctets) × (k ≤ 32) ⌝ }
     ensures { λ r. ⌜ r ≡ fetched (now (message .entry)) (place .0) k ⌝ }
 {
     if !inside(message.len(), place, k) {
@@ -68,7 +68,7 @@ pub fn octet_at(message: &[u8], at: usize, into: u32) -> u64
 
 // Stores the k bits of v from a place on, in the five octets that begin with the place's; every other bit stays.
 fn store_wide(output: &mut [u8], place: BitPlace, k: u32, v: u32) -> Stored
-    requires { ⌜ (length (now output) ≤ 65535) × (k ≤ 32) × (v < 2 ^ k) ⌝ }
+    requires { ⌜ (length (now output) ≤ mostOctets) × (k ≤ 32) × (v < 2 ^ k) ⌝ }
     ensures { λ r. ⌜ (r ≡ stored (now (output .entry)) (place .0) k) × (unpack (now (output .exit)) ≡ overwritten (unpack (now (output .entry))) (place .0) (bitsOf k v)) ⌝ }
 {
     if !inside(output.len(), place, k) {
@@ -78,13 +78,17 @@ fn store_wide(output: &mut [u8], place: BitPlace, k: u32, v: u32) -> Stored
     let first = BitPlace::octets_before(place);
     let at = first.0;
     let window = window::window(output, at);
-    window::put_window(output, at, window::replace(window, bits_behind(place, k), k, v));
+    window::put_window(
+        output,
+        at,
+        window::replace(window, bits_behind(place, k), k, v),
+    );
     Stored::Next(BitPlace(from + k as usize))
 }
 
 // Stores the k bits of v from a place on; every other bit stays. One load and one store where they lie in one octet.
 pub fn store(output: &mut [u8], place: BitPlace, k: u32, v: u32) -> Stored
-    requires { ⌜ (length (now output) ≤ 65535) × (k ≤ 32) × (v < 2 ^ k) ⌝ }
+    requires { ⌜ (length (now output) ≤ mostOctets) × (k ≤ 32) × (v < 2 ^ k) ⌝ }
     ensures { λ r. ⌜ (r ≡ stored (now (output .entry)) (place .0) k) × (unpack (now (output .exit)) ≡ overwritten (unpack (now (output .entry))) (place .0) (bitsOf k v)) ⌝ }
 {
     let from = place.0;

@@ -1,6 +1,7 @@
 // Document 01's messages P4, P5 and P6: variable numbers and lengths on the edges of their forms. Each line has a message's
 // octets and its value, with the octets that the value is written as, or `no` and the refusal's number.
 use bits::BitPlace;
+use bits::OctetSize;
 use item::Item;
 use item::Put;
 ghost use Prim.Native.Nat.{_<_};
@@ -52,7 +53,7 @@ fn print_value(value: i64, output: &[u8], put: Put) {
 }
 
 fn variable(message: &[u8]) {
-    if 65535 < message.len() {
+    if OctetSize::MOST < message.len() {
         return;
     }
     print_octets(message, message.len());
@@ -68,7 +69,7 @@ fn variable(message: &[u8]) {
 }
 
 fn length(message: &[u8]) {
-    if 65535 < message.len() {
+    if OctetSize::MOST < message.len() {
         return;
     }
     print_octets(message, message.len());

@@ -6,6 +6,7 @@ use mathlib.Core.Logic.{_↔_}
 use mathlib.Core.List.{List}
 use lib.IntN.{ℤ}
 use lib.ListN.{length}
+use Rattle.bits.specs.Access.{mostOctets}
 use Rattle.row.specs.Rows.{rowAt}
 use Rattle.rules.specs.Rules.{Starts, Obeys}
 use Rattle.table.specs.Root.{root, IsRoot}
@@ -30,4 +31,4 @@ pub record Demand2 (t : List ℕ) : Type 0 where
   -- octets are written exactly where the list is allowed, they are its encoding, and they fit the output, which counts as
   -- 65,535 octets at most
   pub writes : Obeys t → (vs : List ℤ) (cap : ℕ) (s : List ℕ)
-      → (writeOutcome t vs cap ≡ written s) ↔ (Allows (asks t) vs × (encoding (asks t) vs ≡ s) × (length s ≤ min cap 65535))
+      → (writeOutcome t vs cap ≡ written s) ↔ (Allows (asks t) vs × (encoding (asks t) vs ≡ s) × (length s ≤ min cap mostOctets))

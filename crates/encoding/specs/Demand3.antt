@@ -8,6 +8,7 @@ use mathlib.Core.Logic.{_↔_}
 use mathlib.Core.List.{List}
 use lib.IntN.{ℤ, pos}
 use lib.ListN.{length, getD, take}
+use Rattle.bits.specs.Access.{mostOctets}
 use Rattle.answer.specs.Numbers.{accepted}
 use Rattle.answer.specs.declared.Counts.{Counts}
 use Rattle.answer.specs.declared.Answer.the-variants.{Accepted}
@@ -28,7 +29,7 @@ AreOctets o = (i : ℕ) → getD o i 0 < 256
 -- a message: octets, at most 65,535 of them
 pub record Message (s : List ℕ) : Type 0 where
   pub octets : AreOctets s
-  pub most : length s ≤ 65535
+  pub most : length s ≤ mostOctets
 
 -- a list that items allow, no longer than the slice, whose encoding is those octets
 pub record Stands (p : Items) (s : List ℕ) (room : ℕ) (vs : List ℤ) : Type 0 where

@@ -5,6 +5,7 @@ use mathlib.Core.Bool.{cond}
 use mathlib.Core.List.{List}
 use lib.Dec.{leb}
 use lib.ListN.{length}
+use Rattle.bits.specs.Access.{mostOctets}
 use Rattle.answer.specs.Numbers.{tooLong, refusalAt}
 use Rattle.table.specs.Verdict.{Verdict, passed, broken, verdict}
 use Rattle.items.specs.Reading.{ReadOutcome, refuse, decode}
@@ -17,4 +18,4 @@ onPassed (broken refusal) x = refuse refusal
 
 -- reading under a lent table: 1, 13, then the message
 unfoldable pub readOutcome : List ℕ → List ℕ → ℕ → ReadOutcome
-readOutcome t s room = onPassed (verdict t) (cond (leb (length s) 65535) (decode (asks t) s room) (refuse (refusalAt tooLong 0)))
+readOutcome t s room = onPassed (verdict t) (cond (leb (length s) mostOctets) (decode (asks t) s room) (refuse (refusalAt tooLong 0)))

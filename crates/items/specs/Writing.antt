@@ -6,6 +6,7 @@ use mathlib.Core.List.{List, [], _∷_, _++_}
 use lib.Dec.{leb}
 use lib.IntN.{ℤ}
 use lib.ListN.{length}
+use Rattle.bits.specs.Access.{mostOctets}
 use Rattle.answer.specs.Numbers.{noRoom, wrongValue, refusalAt, accepted}
 use Rattle.answer.specs.declared.Answer.{Answer}
 use Rattle.answer.specs.declared.Answer.the-variants.{Refused}
@@ -54,7 +55,7 @@ closeWrite n (suc cap) (spelt b []) = written (padded b)
 
 -- a list written into cap octets; above 65,535 they count as that many
 abbrev pub encode : Items → List ℤ → ℕ → WriteOutcome
-encode p vs cap = closeWrite (length vs) cap (writeItems p vs (8 * min cap 65535) 0)
+encode p vs cap = closeWrite (length vs) cap (writeItems p vs (8 * min cap mostOctets) 0)
 
 -- ── as the calls answer it ──
 

@@ -8,6 +8,7 @@ use mathlib.Core.List.{List}
 use lib.Dec.{leb, eqb}
 use lib.IntN.{ℤ, pos}
 use lib.ListN.{length, getD, take, drop}
+use Rattle.bits.specs.Access.{mostOctets}
 use Rattle.bits.specs.Bits.{numberOf, unpack}
 use Rattle.answer.specs.Numbers.{messageEnds, wrongVersion, wrongSubtype, wrongValue, tooLong, refusalAt}
 use Rattle.answer.specs.declared.Refusal.{Refusal}
@@ -36,7 +37,7 @@ readIf false refusal x = refuse refusal
 -- 13, then 2 on an empty message, then 10 and 11, then the items
 unfoldable pub readLmOutcome : List ℕ → ℕ → ReadOutcome
 readLmOutcome s room =
-    readIf (leb (length s) 65535) (refusalAt tooLong 0)
+    readIf (leb (length s) mostOctets) (refusalAt tooLong 0)
     (readIf (leb 1 (length s)) (refusalAt messageEnds 0)
     (readIf (eqb (lmVersion s) 3) (refusalAt wrongVersion 5)
     (readIf (leb (lmSubtype s) 2) (refusalAt wrongSubtype 0)

@@ -5,6 +5,7 @@ use mathlib.Core.List.{List}
 use lib.Dec.{leb, eqb}
 use lib.IntN.{ℤ, pos}
 use lib.ListN.{length, getD}
+use Rattle.bits.specs.Access.{mostOctets}
 use Rattle.answer.specs.Numbers.{messageEnds, wrongVersion, wrongSubtype, wrongValue, tooLong, refusalAt, accepted}
 use Rattle.answer.specs.declared.Answer.{Answer}
 use Rattle.answer.specs.declared.Answer.the-variants.{Refused}
@@ -18,7 +19,7 @@ answerIf false refusal x = Refused refusal
 
 unfoldable pub lmTested : List ℕ → Answer
 lmTested s =
-    answerIf (leb (length s) 65535) (refusalAt tooLong 0)
+    answerIf (leb (length s) mostOctets) (refusalAt tooLong 0)
     (answerIf (leb 1 (length s)) (refusalAt messageEnds 0)
     (answerIf (eqb (lmVersion s) 3) (refusalAt wrongVersion 5)
     (answerIf (leb (lmSubtype s) 2) (refusalAt wrongSubtype 0)

@@ -17,7 +17,7 @@ ghost use Rattle.messages.specs.Tested.{lmTested};
 fn lm_tested(message: &[u8]) -> Answer
     ensures { λ r. ⌜ r ≡ lmTested (now (message .entry)) ⌝ }
 {
-    if 65535 < message.len() {
+    if OctetSize::MOST < message.len() {
         return Answer::refused(Refusal::TOO_LONG, 0);
     }
     let version = access::fetch(message, BitPlace(5), 3);

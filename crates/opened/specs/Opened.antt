@@ -5,6 +5,7 @@ use mathlib.Core.Bool.{cond}
 use mathlib.Core.List.{List, []}
 use lib.Dec.{leb, ltb}
 use lib.ListN.{length, take, drop}
+use Rattle.bits.specs.Access.{mostOctets}
 use Rattle.bits.specs.Bits.{numberOf, unpack}
 use Rattle.bits.specs.declared.Fetched.{Fetched}
 use Rattle.bits.specs.declared.Fetched.the-variants.{Bits, Short}
@@ -15,11 +16,11 @@ use Rattle.opened.specs.declared.Taken.the-variants.{Number, Refused}
 
 -- the octets that opening holds: none above 65,535
 abbrev pub kept : List ℕ → List ℕ
-kept m = cond (ltb 65535 (length m)) [] m
+kept m = cond (ltb mostOctets (length m)) [] m
 
 -- what opening answers: nothing to count, or 13 at place 0
 abbrev pub opening : List ℕ → Answer
-opening m = cond (ltb 65535 (length m)) (refused tooLong 0) (accepted 0 0 0)
+opening m = cond (ltb mostOctets (length m)) (refused tooLong 0) (accepted 0 0 0)
 
 -- the case for each outcome of taking: the bits' number and the place after them; a refusal's number and the place that stays
 abbrev pub took : ℕ → ℕ → Taken

@@ -8,6 +8,7 @@ use bits::OctetSize;
 ghost use mathlib.Core.Path.{_≡_};
 ghost use Prim.Native.Nat.{_≤_};
 ghost use lib.ListN.{length};
+ghost use Rattle.bits.specs.Access.{mostOctets};
 ghost use Rattle.opened.specs.Opened.{kept, opening, refusedAt, ofFetched, taken, placeOf};
 
 // One that `open` made holds at most 65,535 octets. Taking bits from any other is as if its octets were opened anew.
@@ -22,27 +23,24 @@ pub enum Taken {
     Refused(Refusal),
 }
 
-// The most octets that a message has.
-const MOST_OCTETS: usize = 65535;
-
 // The most bits that are taken at once.
 const MOST_BITS: u32 = 32;
 
 // The octets that an opened message holds: the lent ones themselves, or none of them where they are too many.
 fn held<'a>(message: &'a [u8]) -> &'a [u8]
-    ensures { λ r. ⌜ (now r ≡ kept (now (message .entry))) × (r .ptr ≡ message .entry .ptr) × (length (now r) ≤ 65535) ⌝ }
+    ensures { λ r. ⌜ (now r ≡ kept (now (message .entry))) × (r .ptr ≡ message .entry .ptr) × (length (now r) ≤ mostOctets) ⌝ }
 {
-    if MOST_OCTETS < message.len() {
-        return &message[..0];
+    if message.len() <= OctetSize::MOST {
+        return message;
     }
-    message
+    &message[..0]
 }
 
 // What opening answers: nothing to count, or 13 at place 0.
 pub fn opening(message: &[u8]) -> Answer
     ensures { λ r. ⌜ r ≡ opening (now (message .entry)) ⌝ }
 {
-    if MOST_OCTETS < message.len() {
+    if OctetSize::MOST < message.len() {
         return Answer::refused(Refusal::TOO_LONG, 0);
     }
     Answer::accepted(0, BitPlace(0), OctetSize(0))

@@ -10,6 +10,7 @@ ghost use Prim.Native.Nat.{_+_, _*_, _≤_, _<_};
 ghost use lib.IntN.{pos};
 ghost use lib.ListN.{length, drop};
 ghost use lib.Signed.{mag};
+ghost use Rattle.bits.specs.Access.{mostOctets};
 ghost use Rattle.bits.specs.Bits.{bitsOf, unpack};
 ghost use Rattle.item.specs.Code.{Code, onesUpTo};
 ghost use Rattle.item.specs.Answers.{itemAt, branchesAt};
@@ -17,7 +18,7 @@ ghost use Rattle.read_item.specs.Steps.{frontOf, boundedLength};
 
 // The k bits from a place on. No bits are there at every place.
 fn bits_at(message: &[u8], place: BitPlace, k: u32) -> Fetched
-    requires { ⌜ (length (now message) ≤ 65535) × (k ≤ 32) ⌝ }
+    requires { ⌜ (length (now message) ≤ mostOctets) × (k ≤ 32) ⌝ }
     ensures { λ r. ⌜ r ≡ frontOf (drop (place .0) (unpack (now (message .entry)))) (place .0) k ⌝ }
 {
     if k == 0 {
@@ -34,7 +35,7 @@ fn wide(x: u8) -> u32
 
 // The eight bits from a place on: one load where they are an octet of the message.
 fn octet_at(message: &[u8], place: BitPlace) -> Fetched
-    requires { ⌜ length (now message) ≤ 65535 ⌝ }
+    requires { ⌜ length (now message) ≤ mostOctets ⌝ }
     ensures { λ r. ⌜ r ≡ frontOf (drop (place .0) (unpack (now (message .entry)))) (place .0) 8 ⌝ }
 {
     let from = place.0;
@@ -51,12 +52,12 @@ fn octet_at(message: &[u8], place: BitPlace) -> Fetched
 
 // A number: its distance above low, in the fewest bits for the span.
 pub fn number(message: &[u8], place: BitPlace, low: i64, span: u32) -> Item
-    requires { ⌜ (length (now message) ≤ 65535) × (mag low ≤ 2147483648) ⌝ }
+    requires { ⌜ (length (now message) ≤ mostOctets) × (mag low ≤ 2147483648) ⌝ }
     ensures { λ r. ⌜ r ≡ itemAt (Code.number low span) (now (message .entry)) (place .0) ⌝ }
 {
     let f = bits_at(message, place, item::width(span));
     let Fetched::Bits(n, next) = f else {
-        return Item::Bad(Refusal::new(Refusal::MESSAGE_ENDS, place.0));
+        return Item::Bad(Refusal::new(Refusal::MESSAGE_ENDS, place.0)); // a number's bits
     };
     if span < n {
         return Item::Bad(Refusal::new(Refusal::ABOVE_SPAN, place.0));
@@ -67,7 +68,7 @@ pub fn number(message: &[u8], place: BitPlace, low: i64, span: u32) -> Item
 
 // An octet: a number from 0 to 255.
 pub fn octet(message: &[u8], place: BitPlace) -> Item
-    requires { ⌜ length (now message) ≤ 65535 ⌝ }
+    requires { ⌜ length (now message) ≤ mostOctets ⌝ }
     ensures { λ r. ⌜ r ≡ itemAt (Code.number (pos 0) 255) (now (message .entry)) (place .0) ⌝ }
 {
     let f = octet_at(message, place);
@@ -97,7 +98,7 @@ fn ones_of(first: u32) -> u32
 
 // A variable number.
 pub fn variable(message: &[u8], place: BitPlace) -> Item
-    requires { ⌜ length (now message) ≤ 65535 ⌝ }
+    requires { ⌜ length (now message) ≤ mostOctets ⌝ }
     ensures { λ r. ⌜ r ≡ itemAt Code.variable (now (message .entry)) (place .0) ⌝ }
 {
     let f = octet_at(message, place);
@@ -134,7 +135,7 @@ fn bounded(place: BitPlace, n: u32, next: BitPlace, least: u32, most: u32) -> It
 
 // A length, from least to most. Its tests come in document 01's order, which each refusal names.
 pub fn length(message: &[u8], place: BitPlace, least: u32, most: u32) -> Item
-    requires { ⌜ length (now message) ≤ 65535 ⌝ }
+    requires { ⌜ length (now message) ≤ mostOctets ⌝ }
     ensures { λ r. ⌜ r ≡ itemAt (Code.lengthWithin least most) (now (message .entry)) (place .0) ⌝ }
 {
     let f = octet_at(message, place);
@@ -161,7 +162,7 @@ pub fn length(message: &[u8], place: BitPlace, least: u32, most: u32) -> Item
 
 // The index of a choice of m branches, whose references stand in a table from an offset on.
 pub fn index(message: &[u8], place: BitPlace, table: &[u8], from: usize, m: usize) -> Item
-    requires { ⌜ (length (now message) ≤ 65535) × (1 ≤ m) × (m ≤ 128) × (from + 2 * m ≤ length (now table)) × (length (now table) ≤ 65535) ⌝ }
+    requires { ⌜ (length (now message) ≤ mostOctets) × (1 ≤ m) × (m ≤ 128) × (from + 2 * m ≤ length (now table)) × (length (now table) ≤ 65535) ⌝ }
     ensures { λ r. ⌜ r ≡ itemAt (Code.index (branchesAt (now (table .entry)) from m)) (now (message .entry)) (place .0) ⌝ }
 {
     let f = bits_at(message, place, item::width((m - 1) as u32));

@@ -10,6 +10,7 @@ ghost use mathlib.Core.Path.{_≡_};
 ghost use Prim.Native.Nat.{_*_, _≤_};
 ghost use lib.IntN.{pos};
 ghost use lib.ListN.{length, set};
+ghost use Rattle.bits.specs.Access.{mostOctets};
 ghost use Rattle.item.specs.Code.{Code};
 ghost use Rattle.values.specs.Values.{setValue};
 ghost use Rattle.items.specs.Items.{one, times};
@@ -67,7 +68,7 @@ fn read_singly(
     room: usize,
     cursor: Cursor,
 ) -> Step
-    requires { ⌜ length (now message) ≤ 65535 ⌝ }
+    requires { ⌜ length (now message) ≤ mostOctets ⌝ }
     ensures { λ r. ⌜ Reads (now (message .entry)) room (times count (one (Code.number (pos 0) 255))) (stateAt cursor (now (values .entry)) (now (packed .entry))) (now (values .exit)) (now (packed .exit)) r ⌝ }
 {
     let mut done = 0;
@@ -93,7 +94,7 @@ pub fn read_octets(
     room: usize,
     cursor: Cursor,
 ) -> Step
-    requires { ⌜ length (now message) ≤ 65535 ⌝ }
+    requires { ⌜ length (now message) ≤ mostOctets ⌝ }
     ensures { λ r. ⌜ Reads (now (message .entry)) room (times count (one (Code.number (pos 0) 255))) (stateAt cursor (now (values .entry)) (now (packed .entry))) (now (values .exit)) (now (packed .exit)) r ⌝ }
 {
     let free = runs::fitting(room, cursor.count, count);
@@ -110,7 +111,7 @@ pub fn read_octets(
 
 // The close of a message whose root ends at a cursor: its last octet ends the message, and zero bits fill it.
 pub fn close(message: &[u8], end: Cursor) -> Answer
-    requires { ⌜ (length (now message) ≤ 65535) × (end .place .0 ≤ 8 * length (now message)) ⌝ }
+    requires { ⌜ (length (now message) ≤ mostOctets) × (end .place .0 ≤ 8 * length (now message)) ⌝ }
     ensures { λ r. ⌜ r ≡ closed (now (message .entry)) end ⌝ }
 {
     let place = end.place;

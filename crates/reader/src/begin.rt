@@ -7,6 +7,7 @@ use row::Row;
 ghost use mathlib.Core.Path.{_≡_};
 ghost use Prim.Native.Nat.{_+_, _<_, _≤_};
 ghost use lib.ListN.{length};
+ghost use Rattle.bits.specs.Access.{mostOctets};
 ghost use Rattle.octets.specs.Numbers.{u16, u32, signed};
 ghost use Rattle.item.specs.Code.{Code};
 ghost use Rattle.rules.specs.Rules.{Obeys, Starts};
@@ -35,7 +36,7 @@ fn begin_number(
     room: usize,
     cursor: Cursor,
 ) -> Begun
-    requires { ⌜ (at + 12 ≤ length (now table)) × (length (now message) ≤ 65535) ⌝ }
+    requires { ⌜ (at + 12 ≤ length (now table)) × (length (now message) ≤ mostOctets) ⌝ }
     ensures { λ r. ⌜ Begins (now (table .entry)) at (now (message .entry)) room (one (Code.number (signed (u32 (now (table .entry)) (at + 4))) (u32 (now (table .entry)) (at + 8)))) (stateAt cursor (now (values .entry)) (now (packed .entry))) (now (values .exit)) (now (packed .exit)) r ⌝ }
 {
     let low = Row::low_at(table, at);
@@ -54,7 +55,7 @@ fn begin_variable(
     room: usize,
     cursor: Cursor,
 ) -> Begun
-    requires { ⌜ length (now message) ≤ 65535 ⌝ }
+    requires { ⌜ length (now message) ≤ mostOctets ⌝ }
     ensures { λ r. ⌜ Begins (now (table .entry)) at (now (message .entry)) room (one Code.variable) (stateAt cursor (now (values .entry)) (now (packed .entry))) (now (values .exit)) (now (packed .exit)) r ⌝ }
 {
     let item = read_item::variable(message, cursor.place);
@@ -71,7 +72,7 @@ fn begin_octets(
     room: usize,
     cursor: Cursor,
 ) -> Begun
-    requires { ⌜ Obeys (now table) × Starts (now table) at × (u16 (now table) (at + 2) ≡ 7) × (length (now message) ≤ 65535) ⌝ }
+    requires { ⌜ Obeys (now table) × Starts (now table) at × (u16 (now table) (at + 2) ≡ 7) × (length (now message) ≤ mostOctets) ⌝ }
     ensures { λ r. ⌜ Begins (now (table .entry)) at (now (message .entry)) room (items (now (table .entry)) at) (stateAt cursor (now (values .entry)) (now (packed .entry))) (now (values .exit)) (now (packed .exit)) r ⌝ }
 {
     let most = Row::count_at(table, at);
@@ -94,7 +95,7 @@ fn begin_counted(
     room: usize,
     cursor: Cursor,
 ) -> Begun
-    requires { ⌜ Obeys (now table) × Starts (now table) at × (u16 (now table) (at + 2) ≡ 4) × (length (now message) ≤ 65535) ⌝ }
+    requires { ⌜ Obeys (now table) × Starts (now table) at × (u16 (now table) (at + 2) ≡ 4) × (length (now message) ≤ mostOctets) ⌝ }
     ensures { λ r. ⌜ Begins (now (table .entry)) at (now (message .entry)) room (items (now (table .entry)) at) (stateAt cursor (now (values .entry)) (now (packed .entry))) (now (values .exit)) (now (packed .exit)) r ⌝ }
 {
     let most = Row::count_at(table, at);
@@ -117,7 +118,7 @@ fn begin_choice(
     room: usize,
     cursor: Cursor,
 ) -> Begun
-    requires { ⌜ Obeys (now table) × Starts (now table) at × (u16 (now table) (at + 2) ≡ 6) × (length (now message) ≤ 65535) ⌝ }
+    requires { ⌜ Obeys (now table) × Starts (now table) at × (u16 (now table) (at + 2) ≡ 6) × (length (now message) ≤ mostOctets) ⌝ }
     ensures { λ r. ⌜ Begins (now (table .entry)) at (now (message .entry)) room (items (now (table .entry)) at) (stateAt cursor (now (values .entry)) (now (packed .entry))) (now (values .exit)) (now (packed .exit)) r ⌝ }
 {
     let branches = Row::count_at(table, at);
@@ -140,7 +141,7 @@ fn mark(
     room: usize,
     cursor: Cursor,
 ) -> Begun
-    requires { ⌜ (mask < 2147483648) × (length (now message) ≤ 65535) ⌝ }
+    requires { ⌜ (mask < 2147483648) × (length (now message) ≤ mostOctets) ⌝ }
     ensures { λ r. ⌜ Marks flag mask (now (message .entry)) room (stateAt cursor (now (values .entry)) (now (packed .entry))) (now (values .exit)) (now (packed .exit)) r ⌝ }
 {
     if flag == 0 {
@@ -167,7 +168,7 @@ fn begin_record(
     room: usize,
     cursor: Cursor,
 ) -> Begun
-    requires { ⌜ Obeys (now table) × Starts (now table) at × (u16 (now table) (at + 2) ≡ 5) × (length (now message) ≤ 65535) ⌝ }
+    requires { ⌜ Obeys (now table) × Starts (now table) at × (u16 (now table) (at + 2) ≡ 5) × (length (now message) ≤ mostOctets) ⌝ }
     ensures { λ r. ⌜ Begins (now (table .entry)) at (now (message .entry)) room (items (now (table .entry)) at) (stateAt cursor (now (values .entry)) (now (packed .entry))) (now (values .exit)) (now (packed .exit)) r ⌝ }
 {
     let fields = Row::count_at(table, at);
@@ -197,7 +198,7 @@ pub fn begin(
     room: usize,
     cursor: Cursor,
 ) -> Begun
-    requires { ⌜ Obeys (now table) × Starts (now table) at × (length (now message) ≤ 65535) ⌝ }
+    requires { ⌜ Obeys (now table) × Starts (now table) at × (length (now message) ≤ mostOctets) ⌝ }
     ensures { λ r. ⌜ Begins (now (table .entry)) at (now (message .entry)) room (items (now (table .entry)) at) (stateAt cursor (now (values .entry)) (now (packed .entry))) (now (values .exit)) (now (packed .exit)) r ⌝ }
 {
     let kind = Row::kind_at(table, at);

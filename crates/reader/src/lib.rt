@@ -9,6 +9,7 @@ use row::Row;
 ghost use mathlib.Core.Path.{_≡_};
 ghost use Prim.Native.Nat.{_+_, _<_, _≤_, _^_};
 ghost use lib.ListN.{length};
+ghost use Rattle.bits.specs.Access.{mostOctets};
 ghost use Rattle.octets.specs.Numbers.{u16};
 ghost use Rattle.rules.specs.Rules.{Obeys, Starts, Earlier};
 ghost use Rattle.items.specs.Items.{times};
@@ -36,7 +37,7 @@ pub fn read_row(
     room: usize,
     cursor: Cursor,
 ) -> Step
-    requires { ⌜ Obeys (now table) × Starts (now table) at × (length (now message) ≤ 65535) ⌝ }
+    requires { ⌜ Obeys (now table) × Starts (now table) at × (length (now message) ≤ mostOctets) ⌝ }
     ensures { λ r. ⌜ Reads (now (message .entry)) room (items (now (table .entry)) at) (stateAt cursor (now (values .entry)) (now (packed .entry))) (now (values .exit)) (now (packed .exit)) r ⌝ }
 {
     let begun = begin::begin(table, at, message, values, packed, room, cursor);
@@ -80,7 +81,7 @@ fn read_run(
     room: usize,
     cursor: Cursor,
 ) -> Step
-    requires { ⌜ Obeys (now table) × Starts (now table) at × Earlier (now table) at row × (length (now message) ≤ 65535) ⌝ }
+    requires { ⌜ Obeys (now table) × Starts (now table) at × Earlier (now table) at row × (length (now message) ≤ mostOctets) ⌝ }
     ensures { λ r. ⌜ Reads (now (message .entry)) room (times count (items (now (table .entry)) row)) (stateAt cursor (now (values .entry)) (now (packed .entry))) (now (values .exit)) (now (packed .exit)) r ⌝ }
 {
     let mut done = 0;
@@ -107,7 +108,7 @@ fn read_fields(
     room: usize,
     cursor: Cursor,
 ) -> Step
-    requires { ⌜ Obeys (now table) × Starts (now table) at × (u16 (now table) (at + 2) ≡ 5) × (mask < 2 ^ u16 (now table) (at + 4)) × (length (now message) ≤ 65535) ⌝ }
+    requires { ⌜ Obeys (now table) × Starts (now table) at × (u16 (now table) (at + 2) ≡ 5) × (mask < 2 ^ u16 (now table) (at + 4)) × (length (now message) ≤ mostOctets) ⌝ }
     ensures { λ r. ⌜ Reads (now (message .entry)) room (markedFields (now (table .entry)) at mask) (stateAt cursor (now (values .entry)) (now (packed .entry))) (now (values .exit)) (now (packed .exit)) r ⌝ }
 {
     let fields = Row::count_at(table, at);
@@ -138,7 +139,7 @@ fn read_field(
     room: usize,
     cursor: Cursor,
 ) -> Step
-    requires { ⌜ Obeys (now table) × Starts (now table) at × Earlier (now table) at row × (length (now message) ≤ 65535) ⌝ }
+    requires { ⌜ Obeys (now table) × Starts (now table) at × Earlier (now table) at row × (length (now message) ≤ mostOctets) ⌝ }
     ensures { λ r. ⌜ Reads (now (message .entry)) room (fieldIf present (items (now (table .entry)) row)) (stateAt cursor (now (values .entry)) (now (packed .entry))) (now (values .exit)) (now (packed .exit)) r ⌝ }
 {
     if present {

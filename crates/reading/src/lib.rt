@@ -3,11 +3,13 @@
 use answer::Answer;
 use answer::Refusal;
 use bits::BitPlace;
+use bits::OctetSize;
 use read_steps::Cursor;
 use read_steps::Step;
 ghost use mathlib.Core.Path.{_≡_};
 ghost use Prim.Native.Nat.{_≤_, _<_};
 ghost use lib.ListN.{length, set};
+ghost use Rattle.bits.specs.Access.{mostOctets};
 ghost use Rattle.values.specs.Values.{setValue};
 ghost use Rattle.rules.specs.Rules.{Obeys};
 ghost use Rattle.table.specs.Root.{root};
@@ -28,7 +30,7 @@ pub fn read_message(
     packed: &mut [u8],
     room: usize,
 ) -> Answer
-    requires { ⌜ Obeys (now table) × (at ≡ root (now table)) × (0 < length (now message)) × (length (now message) ≤ 65535) ⌝ }
+    requires { ⌜ Obeys (now table) × (at ≡ root (now table)) × (0 < length (now message)) × (length (now message) ≤ mostOctets) ⌝ }
     ensures { λ r. ⌜ (r ≡ readAnswer (decode (asks (now (table .entry))) (now (message .entry)) room)) × KeptBy set (decode (asks (now (table .entry))) (now (message .entry)) room) (now (values .entry)) (now (values .exit)) × KeptBy setValue (decode (asks (now (table .entry))) (now (message .entry)) room) (now (packed .entry)) (now (packed .exit)) ⌝ }
 {
     let start = Cursor {
@@ -54,7 +56,7 @@ pub fn read_passed(
     requires { ⌜ Obeys (now table) × (at ≡ root (now table)) ⌝ }
     ensures { λ r. ⌜ (r ≡ readAnswer (messageOutcome (now (table .entry)) (now (message .entry)) room)) × KeptBy set (messageOutcome (now (table .entry)) (now (message .entry)) room) (now (values .entry)) (now (values .exit)) × KeptBy setValue (messageOutcome (now (table .entry)) (now (message .entry)) room) (now (packed .entry)) (now (packed .exit)) ⌝ }
 {
-    if 65535 < message.len() {
+    if OctetSize::MOST < message.len() {
         return Answer::refused(Refusal::TOO_LONG, 0);
     }
     if message.len() == 0 {

@@ -8,6 +8,7 @@ ghost use mathlib.Core.Path.{_≡_};
 ghost use Prim.Native.Nat.{_+_, _-_, _*_, _/_, _<_, _≤_, min};
 ghost use lib.IntN.{pos, natAbs};
 ghost use lib.ListN.{length, getD, drop, set};
+ghost use Rattle.bits.specs.Access.{mostOctets};
 ghost use Rattle.bits.specs.Bits.{unpack};
 ghost use Rattle.values.specs.Values.{setValue, storeAll, valuesIn};
 ghost use Rattle.runs.specs.Runs.{octetValues, isOctet, reach, Puts, Written};
@@ -27,7 +28,7 @@ pub fn fitting(length: usize, at: usize, count: usize) -> usize
 
 // Keeps the octets that begin so many bits into an octet of the message as numbers, as far as the slice reaches.
 fn read_numbers(message: &[u8], from: usize, into: u32, count: usize, values: &mut [i64], at: usize)
-    requires { ⌜ (into < 8) × (8 * count ≤ 8 * length (now message) - (8 * from + into)) × (length (now message) ≤ 65535) ⌝ }
+    requires { ⌜ (into < 8) × (8 * count ≤ 8 * length (now message) - (8 * from + into)) × (length (now message) ≤ mostOctets) ⌝ }
     ensures { λ _. ⌜ now (values .exit) ≡ storeAll set (now (values .entry)) at (octetValues count (drop (8 * from + into) (unpack (now (message .entry))))) ⌝ }
 {
     let fit = fitting(values.len(), at, count);
@@ -40,7 +41,7 @@ fn read_numbers(message: &[u8], from: usize, into: u32, count: usize, values: &m
 
 // The same, each as eight octets.
 fn read_packed(message: &[u8], from: usize, into: u32, count: usize, packed: &mut [u8], at: usize)
-    requires { ⌜ (into < 8) × (8 * count ≤ 8 * length (now message) - (8 * from + into)) × (length (now message) ≤ 65535) ⌝ }
+    requires { ⌜ (into < 8) × (8 * count ≤ 8 * length (now message) - (8 * from + into)) × (length (now message) ≤ mostOctets) ⌝ }
     ensures { λ _. ⌜ now (packed .exit) ≡ storeAll setValue (now (packed .entry)) at (octetValues count (drop (8 * from + into) (unpack (now (message .entry))))) ⌝ }
 {
     let fit = fitting(packed.len() / 8, at, count);
@@ -61,7 +62,7 @@ pub fn read(
     packed: &mut [u8],
     at: usize,
 )
-    requires { ⌜ (8 * count ≤ 8 * length (now message) - place .0) × (length (now message) ≤ 65535) ⌝ }
+    requires { ⌜ (8 * count ≤ 8 * length (now message) - place .0) × (length (now message) ≤ mostOctets) ⌝ }
     ensures { λ _. ⌜ (now (values .exit) ≡ storeAll set (now (values .entry)) at (octetValues count (drop (place .0) (unpack (now (message .entry)))))) × (now (packed .exit) ≡ storeAll setValue (now (packed .entry)) at (octetValues count (drop (place .0) (unpack (now (message .entry)))))) ⌝ }
 {
     let first = BitPlace::octets_before(place);
@@ -146,7 +147,7 @@ pub fn write(
     output: &mut [u8],
     place: BitPlace,
 ) -> usize
-    requires { ⌜ length (now output) ≤ 65535 ⌝ }
+    requires { ⌜ length (now output) ≤ mostOctets ⌝ }
     ensures { λ r. ⌜ Written (now (values .entry) ++ valuesIn (now (packed .entry))) (reach (now (values .entry)) (now (packed .entry))) index count (now (output .entry)) (place .0) r (now (output .exit)) ⌝ }
 {
     let first = BitPlace::octets_before(place);

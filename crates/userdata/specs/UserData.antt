@@ -1,10 +1,11 @@
 -- Where the user data of an LM stands in its message, and the part that it is (document 01, "Refusal numbers": the part alone,
 -- empty and from the message's start on a refusal; or the number and place, or the part's start and length). The refusals are
 -- those of reading an LM by name, with room for all its values. Nothing here mentions the code.
-use Prim.Native.Nat.{ℕ, suc, _-_}
+use Prim.Native.Nat.{ℕ, suc, _-_, _*_}
 use mathlib.Core.List.{List, [], _∷_}
 use lib.IntN.{ℤ, pos}
 use lib.ListN.{length, getD, take, drop}
+use Rattle.bits.specs.Access.{mostOctets}
 use Rattle.answer.specs.Numbers.{refusalAt}
 use Rattle.item.specs.Code.{natural}
 use Rattle.items.specs.Items.{Items, stop, ask, _then_}
@@ -18,7 +19,7 @@ use Rattle.userdata.specs.declared.Found.the-variants.{At, Refused}
 -- a value for each bit of the longest message; with this room and with any more an LM has one outcome, and 8 is none
 -- (specs/Placed.antt)
 abbrev pub enough : ℕ
-enough = 524280
+enough = 8 * mostOctets
 
 -- what the N-Header and then the T-Header ask for
 unfoldable pub headers : Items

@@ -9,6 +9,7 @@ use read_steps::Step;
 ghost use mathlib.Core.Path.{_≡_};
 ghost use Prim.Native.Nat.{_+_, _≤_};
 ghost use lib.ListN.{length};
+ghost use Rattle.bits.specs.Access.{mostOctets};
 ghost use Rattle.userdata.specs.UserData.{userDataFound, partOf, startOf};
 ghost use Rattle.userdata.specs.Headers.{headerCount, answerFound};
 
@@ -25,7 +26,7 @@ pub enum Found {
 }
 
 // Room for a value for each bit of the longest message: no item of an LM takes no bits, so it is never used up.
-const ROOM: usize = 524280;
+const ROOM: usize = 8 * OctetSize::MOST;
 
 // The rows of the two headers in the table of LM.
 const N_HEADER: usize = 204;
@@ -34,7 +35,7 @@ const T_HEADER: usize = 278;
 
 // How many values the two headers of a message have, 0 where one of them is refused.
 fn header_values(message: &[u8]) -> usize
-    requires { ⌜ length (now message) ≤ 65535 ⌝ }
+    requires { ⌜ length (now message) ≤ mostOctets ⌝ }
     ensures { λ r. ⌜ r ≡ headerCount (now (message .entry)) ⌝ }
 {
     let mut values = [0i64; 0];

@@ -10,7 +10,7 @@ ghost use lib.IntN.{pos, _-ℤ_};
 ghost use lib.ListN.{length};
 ghost use lib.Signed.{mag};
 ghost use Rattle.bits.specs.Bits.{bitsOf, unpack};
-ghost use Rattle.bits.specs.Access.{overwritten};
+ghost use Rattle.bits.specs.Access.{mostOctets, overwritten};
 ghost use Rattle.item.specs.Code.{Code, variableOnes, lengthOnes};
 ghost use Rattle.item.specs.Answers.{putAt, bitsAfter, branchesAt};
 ghost use Rattle.write_item.specs.Steps.{within, putOf};
@@ -38,7 +38,7 @@ fn distance(value: i64, low: i64, span: u32) -> Offset
 
 // Stores the k bits of n from a place on.
 fn put_bits(output: &mut [u8], place: BitPlace, k: u32, n: u32) -> Put
-    requires { ⌜ (length (now output) ≤ 65535) × (k ≤ 32) × (n < 2 ^ k) ⌝ }
+    requires { ⌜ (length (now output) ≤ mostOctets) × (k ≤ 32) × (n < 2 ^ k) ⌝ }
     ensures { λ r. ⌜ (r ≡ putOf (now (output .entry)) (place .0) k) × (unpack (now (output .exit)) ≡ overwritten (unpack (now (output .entry))) (place .0) (bitsOf k n)) ⌝ }
 {
     let s = access::store(output, place, k, n);
@@ -50,7 +50,7 @@ fn put_bits(output: &mut [u8], place: BitPlace, k: u32, n: u32) -> Put
 
 // A number: its distance above low, in the fewest bits for the span.
 pub fn number(output: &mut [u8], place: BitPlace, low: i64, span: u32, value: i64) -> Put
-    requires { ⌜ (length (now output) ≤ 65535) × (mag low ≤ 2147483648) ⌝ }
+    requires { ⌜ (length (now output) ≤ mostOctets) × (mag low ≤ 2147483648) ⌝ }
     ensures { λ r. ⌜ (r ≡ putAt (Code.number low span) (now (output .entry)) (place .0) value) × (unpack (now (output .exit)) ≡ bitsAfter (Code.number low span) (unpack (now (output .entry))) (place .0) value) ⌝ }
 {
     let d = distance(value, low, span);
@@ -69,7 +69,7 @@ fn narrow(n: u32) -> u8
 
 // An octet: a number from 0 to 255. One store where its bits are an octet of the output.
 pub fn octet(output: &mut [u8], place: BitPlace, value: i64) -> Put
-    requires { ⌜ length (now output) ≤ 65535 ⌝ }
+    requires { ⌜ length (now output) ≤ mostOctets ⌝ }
     ensures { λ r. ⌜ (r ≡ putAt (Code.number (pos 0) 255) (now (output .entry)) (place .0) value) × (unpack (now (output .exit)) ≡ bitsAfter (Code.number (pos 0) 255) (unpack (now (output .entry))) (place .0) value) ⌝ }
 {
     let d = distance(value, 0, 255);
@@ -106,7 +106,7 @@ fn variable_ones(n: u32) -> u32
 
 // A variable number.
 pub fn variable(output: &mut [u8], place: BitPlace, value: i64) -> Put
-    requires { ⌜ length (now output) ≤ 65535 ⌝ }
+    requires { ⌜ length (now output) ≤ mostOctets ⌝ }
     ensures { λ r. ⌜ (r ≡ putAt Code.variable (now (output .entry)) (place .0) value) × (unpack (now (output .exit)) ≡ bitsAfter Code.variable (unpack (now (output .entry))) (place .0) value) ⌝ }
 {
     let d = distance(value, 0, Form::LARGEST);
@@ -126,7 +126,7 @@ fn length_ones(n: u32) -> u32
 
 // A length, from least to most.
 pub fn length(output: &mut [u8], place: BitPlace, least: u32, most: u32, value: i64) -> Put
-    requires { ⌜ length (now output) ≤ 65535 ⌝ }
+    requires { ⌜ length (now output) ≤ mostOctets ⌝ }
     ensures { λ r. ⌜ (r ≡ putAt (Code.lengthWithin least most) (now (output .entry)) (place .0) value) × (unpack (now (output .exit)) ≡ bitsAfter (Code.lengthWithin least most) (unpack (now (output .entry))) (place .0) value) ⌝ }
 {
     let d = distance(value, 0, Form::LARGEST_LENGTH);
@@ -152,7 +152,7 @@ pub fn index(
     m: usize,
     value: i64,
 ) -> Put
-    requires { ⌜ (length (now output) ≤ 65535) × (1 ≤ m) × (m ≤ 128) × (from + 2 * m ≤ length (now table)) × (length (now table) ≤ 65535) ⌝ }
+    requires { ⌜ (length (now output) ≤ mostOctets) × (1 ≤ m) × (m ≤ 128) × (from + 2 * m ≤ length (now table)) × (length (now table) ≤ 65535) ⌝ }
     ensures { λ r. ⌜ (r ≡ putAt (Code.index (branchesAt (now (table .entry)) from m)) (now (output .entry)) (place .0) value) × (unpack (now (output .exit)) ≡ bitsAfter (Code.index (branchesAt (now (table .entry)) from m)) (unpack (now (output .entry))) (place .0) value) ⌝ }
 {
     let last = (m - 1) as u32;

@@ -9,6 +9,7 @@ ghost use mathlib.Core.Path.{_≡_};
 ghost use Prim.Native.Nat.{_*_, _≤_, min};
 ghost use lib.IntN.{pos};
 ghost use lib.ListN.{length};
+ghost use Rattle.bits.specs.Access.{mostOctets};
 ghost use Rattle.item.specs.Code.{Code};
 ghost use Rattle.items.specs.Items.{one, times};
 ghost use Rattle.write_steps.specs.Writes.{Writes, listIn, stateAt, Gives, missingAt, movedStep};
@@ -70,7 +71,7 @@ fn write_singly(
     output: &mut [u8],
     cursor: Cursor,
 ) -> Step
-    requires { ⌜ length (now output) ≤ 65535 ⌝ }
+    requires { ⌜ length (now output) ≤ mostOctets ⌝ }
     ensures { λ r. ⌜ Writes (listIn (now (values .entry)) (now (packed .entry))) (times count (one (Code.number (pos 0) 255))) (stateAt cursor (now (output .entry))) (now (output .exit)) r ⌝ }
 {
     let mut done = 0;
@@ -99,7 +100,7 @@ pub fn write_octets(
     output: &mut [u8],
     cursor: Cursor,
 ) -> Step
-    requires { ⌜ length (now output) ≤ 65535 ⌝ }
+    requires { ⌜ length (now output) ≤ mostOctets ⌝ }
     ensures { λ r. ⌜ Writes (listIn (now (values .entry)) (now (packed .entry))) (times count (one (Code.number (pos 0) 255))) (stateAt cursor (now (output .entry))) (now (output .exit)) r ⌝ }
 {
     let done = runs::write(values, packed, cursor.index, count, output, cursor.place);
@@ -123,7 +124,7 @@ pub fn refused(step: Step) -> Answer
 // The end of a message of so many values whose root ends at a cursor: left over values, an output with no octet, then zero bits
 // to the octet's end.
 pub fn finish(count: usize, output: &mut [u8], end: Cursor) -> Answer
-    requires { ⌜ (length (now output) ≤ 65535) × (end .place .0 ≤ 8 * length (now output)) ⌝ }
+    requires { ⌜ (length (now output) ≤ mostOctets) × (end .place .0 ≤ 8 * length (now output)) ⌝ }
     ensures { λ r. ⌜ (r ≡ endedAnswer count (length (now (output .entry))) end) × Ended count (now (output .entry)) (now (output .exit)) end ⌝ }
 {
     let index = end.index;
@@ -152,7 +153,11 @@ pub fn written_count(answer: Answer) -> usize
 
 // The length that an output counts as.
 pub fn counted_length(length: usize) -> usize
-    ensures { λ r. ⌜ r ≡ min length 65535 ⌝ }
+    ensures { λ r. ⌜ r ≡ min length mostOctets ⌝ }
 {
-    if 65535 < length { 65535 } else { length }
+    if OctetSize::MOST < length {
+        OctetSize::MOST
+    } else {
+        length
+    }
 }

@@ -8,6 +8,7 @@ use write_steps::Step;
 ghost use mathlib.Core.Path.{_≡_};
 ghost use Prim.Native.Nat.{_+_, _<_, _≤_};
 ghost use lib.ListN.{length};
+ghost use Rattle.bits.specs.Access.{mostOctets};
 ghost use Rattle.octets.specs.Numbers.{u16, u32, signed};
 ghost use Rattle.item.specs.Code.{Code};
 ghost use Rattle.rules.specs.Rules.{Obeys, Starts};
@@ -35,7 +36,7 @@ fn begin_number(
     output: &mut [u8],
     cursor: Cursor,
 ) -> Begun
-    requires { ⌜ (at + 12 ≤ length (now table)) × (length (now output) ≤ 65535) ⌝ }
+    requires { ⌜ (at + 12 ≤ length (now table)) × (length (now output) ≤ mostOctets) ⌝ }
     ensures { λ r. ⌜ Begins (now (table .entry)) at (listIn (now (values .entry)) (now (packed .entry))) (one (Code.number (signed (u32 (now (table .entry)) (at + 4))) (u32 (now (table .entry)) (at + 8)))) (stateAt cursor (now (output .entry))) (now (output .exit)) r ⌝ }
 {
     let given = write_steps::next_value(values, packed, cursor.index);
@@ -57,7 +58,7 @@ fn begin_variable(
     output: &mut [u8],
     cursor: Cursor,
 ) -> Begun
-    requires { ⌜ length (now output) ≤ 65535 ⌝ }
+    requires { ⌜ length (now output) ≤ mostOctets ⌝ }
     ensures { λ r. ⌜ Begins (now (table .entry)) at (listIn (now (values .entry)) (now (packed .entry))) (one Code.variable) (stateAt cursor (now (output .entry))) (now (output .exit)) r ⌝ }
 {
     let given = write_steps::next_value(values, packed, cursor.index);
@@ -77,7 +78,7 @@ fn begin_octets(
     output: &mut [u8],
     cursor: Cursor,
 ) -> Begun
-    requires { ⌜ Obeys (now table) × Starts (now table) at × (u16 (now table) (at + 2) ≡ 7) × (length (now output) ≤ 65535) ⌝ }
+    requires { ⌜ Obeys (now table) × Starts (now table) at × (u16 (now table) (at + 2) ≡ 7) × (length (now output) ≤ mostOctets) ⌝ }
     ensures { λ r. ⌜ Begins (now (table .entry)) at (listIn (now (values .entry)) (now (packed .entry))) (items (now (table .entry)) at) (stateAt cursor (now (output .entry))) (now (output .exit)) r ⌝ }
 {
     let given = write_steps::next_value(values, packed, cursor.index);
@@ -103,7 +104,7 @@ fn begin_counted(
     output: &mut [u8],
     cursor: Cursor,
 ) -> Begun
-    requires { ⌜ Obeys (now table) × Starts (now table) at × (u16 (now table) (at + 2) ≡ 4) × (length (now output) ≤ 65535) ⌝ }
+    requires { ⌜ Obeys (now table) × Starts (now table) at × (u16 (now table) (at + 2) ≡ 4) × (length (now output) ≤ mostOctets) ⌝ }
     ensures { λ r. ⌜ Begins (now (table .entry)) at (listIn (now (values .entry)) (now (packed .entry))) (items (now (table .entry)) at) (stateAt cursor (now (output .entry))) (now (output .exit)) r ⌝ }
 {
     let given = write_steps::next_value(values, packed, cursor.index);
@@ -129,7 +130,7 @@ fn begin_choice(
     output: &mut [u8],
     cursor: Cursor,
 ) -> Begun
-    requires { ⌜ Obeys (now table) × Starts (now table) at × (u16 (now table) (at + 2) ≡ 6) × (length (now output) ≤ 65535) ⌝ }
+    requires { ⌜ Obeys (now table) × Starts (now table) at × (u16 (now table) (at + 2) ≡ 6) × (length (now output) ≤ mostOctets) ⌝ }
     ensures { λ r. ⌜ Begins (now (table .entry)) at (listIn (now (values .entry)) (now (packed .entry))) (items (now (table .entry)) at) (stateAt cursor (now (output .entry))) (now (output .exit)) r ⌝ }
 {
     let given = write_steps::next_value(values, packed, cursor.index);
@@ -155,7 +156,7 @@ fn mark(
     output: &mut [u8],
     cursor: Cursor,
 ) -> Begun
-    requires { ⌜ (mask < 2147483648) × (length (now output) ≤ 65535) ⌝ }
+    requires { ⌜ (mask < 2147483648) × (length (now output) ≤ mostOctets) ⌝ }
     ensures { λ r. ⌜ Marks flag mask (listIn (now (values .entry)) (now (packed .entry))) (stateAt cursor (now (output .entry))) (now (output .exit)) r ⌝ }
 {
     if flag == 0 {
@@ -185,7 +186,7 @@ fn begin_record(
     output: &mut [u8],
     cursor: Cursor,
 ) -> Begun
-    requires { ⌜ Obeys (now table) × Starts (now table) at × (u16 (now table) (at + 2) ≡ 5) × (length (now output) ≤ 65535) ⌝ }
+    requires { ⌜ Obeys (now table) × Starts (now table) at × (u16 (now table) (at + 2) ≡ 5) × (length (now output) ≤ mostOctets) ⌝ }
     ensures { λ r. ⌜ Begins (now (table .entry)) at (listIn (now (values .entry)) (now (packed .entry))) (items (now (table .entry)) at) (stateAt cursor (now (output .entry))) (now (output .exit)) r ⌝ }
 {
     let fields = Row::count_at(table, at);
@@ -214,7 +215,7 @@ pub fn begin(
     output: &mut [u8],
     cursor: Cursor,
 ) -> Begun
-    requires { ⌜ Obeys (now table) × Starts (now table) at × (length (now output) ≤ 65535) ⌝ }
+    requires { ⌜ Obeys (now table) × Starts (now table) at × (length (now output) ≤ mostOctets) ⌝ }
     ensures { λ r. ⌜ Begins (now (table .entry)) at (listIn (now (values .entry)) (now (packed .entry))) (items (now (table .entry)) at) (stateAt cursor (now (output .entry))) (now (output .exit)) r ⌝ }
 {
     let kind = Row::kind_at(table, at);

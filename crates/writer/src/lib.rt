@@ -9,6 +9,7 @@ use write_steps::Step;
 ghost use mathlib.Core.Path.{_≡_};
 ghost use Prim.Native.Nat.{_+_, _<_, _≤_, _^_};
 ghost use lib.ListN.{length};
+ghost use Rattle.bits.specs.Access.{mostOctets};
 ghost use Rattle.octets.specs.Numbers.{u16};
 ghost use Rattle.rules.specs.Rules.{Obeys, Starts, Earlier};
 ghost use Rattle.items.specs.Items.{times};
@@ -35,7 +36,7 @@ pub fn write_row(
     output: &mut [u8],
     cursor: Cursor,
 ) -> Step
-    requires { ⌜ Obeys (now table) × Starts (now table) at × (length (now output) ≤ 65535) ⌝ }
+    requires { ⌜ Obeys (now table) × Starts (now table) at × (length (now output) ≤ mostOctets) ⌝ }
     ensures { λ r. ⌜ Writes (listIn (now (values .entry)) (now (packed .entry))) (items (now (table .entry)) at) (stateAt cursor (now (output .entry))) (now (output .exit)) r ⌝ }
 {
     let begun = begin::begin(table, at, values, packed, output, cursor);
@@ -68,7 +69,7 @@ fn write_run(
     output: &mut [u8],
     cursor: Cursor,
 ) -> Step
-    requires { ⌜ Obeys (now table) × Starts (now table) at × Earlier (now table) at row × (length (now output) ≤ 65535) ⌝ }
+    requires { ⌜ Obeys (now table) × Starts (now table) at × Earlier (now table) at row × (length (now output) ≤ mostOctets) ⌝ }
     ensures { λ r. ⌜ Writes (listIn (now (values .entry)) (now (packed .entry))) (times count (items (now (table .entry)) row)) (stateAt cursor (now (output .entry))) (now (output .exit)) r ⌝ }
 {
     let mut done = 0;
@@ -94,7 +95,7 @@ fn write_fields(
     output: &mut [u8],
     cursor: Cursor,
 ) -> Step
-    requires { ⌜ Obeys (now table) × Starts (now table) at × (u16 (now table) (at + 2) ≡ 5) × (mask < 2 ^ u16 (now table) (at + 4)) × (length (now output) ≤ 65535) ⌝ }
+    requires { ⌜ Obeys (now table) × Starts (now table) at × (u16 (now table) (at + 2) ≡ 5) × (mask < 2 ^ u16 (now table) (at + 4)) × (length (now output) ≤ mostOctets) ⌝ }
     ensures { λ r. ⌜ Writes (listIn (now (values .entry)) (now (packed .entry))) (markedFields (now (table .entry)) at mask) (stateAt cursor (now (output .entry))) (now (output .exit)) r ⌝ }
 {
     let fields = Row::count_at(table, at);
@@ -124,7 +125,7 @@ fn write_field(
     output: &mut [u8],
     cursor: Cursor,
 ) -> Step
-    requires { ⌜ Obeys (now table) × Starts (now table) at × Earlier (now table) at row × (length (now output) ≤ 65535) ⌝ }
+    requires { ⌜ Obeys (now table) × Starts (now table) at × Earlier (now table) at row × (length (now output) ≤ mostOctets) ⌝ }
     ensures { λ r. ⌜ Writes (listIn (now (values .entry)) (now (packed .entry))) (fieldIf present (items (now (table .entry)) row)) (stateAt cursor (now (output .entry))) (now (output .exit)) r ⌝ }
 {
     if present {

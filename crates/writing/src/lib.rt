@@ -6,6 +6,7 @@ use write_steps::Step;
 ghost use mathlib.Core.Path.{_≡_};
 ghost use Prim.Native.Nat.{_≤_};
 ghost use lib.ListN.{length};
+ghost use Rattle.bits.specs.Access.{mostOctets};
 ghost use Rattle.rules.specs.Rules.{Obeys};
 ghost use Rattle.table.specs.Root.{root};
 ghost use Rattle.encoding.specs.Rows.{asks};
@@ -24,7 +25,7 @@ pub fn write_root(
     packed: &[u8],
     output: &mut [u8],
 ) -> Answer
-    requires { ⌜ Obeys (now table) × (at ≡ root (now table)) × (length (now output) ≤ 65535) ⌝ }
+    requires { ⌜ Obeys (now table) × (at ≡ root (now table)) × (length (now output) ≤ mostOctets) ⌝ }
     ensures { λ r. ⌜ (r ≡ writeAnswer (encode (asks (now (table .entry))) (listIn (now (values .entry)) (now (packed .entry))) (length (now (output .entry))))) × WrittenBy (encode (asks (now (table .entry))) (listIn (now (values .entry)) (now (packed .entry))) (length (now (output .entry)))) (now (output .exit)) ⌝ }
 {
     let start = Cursor {

@@ -13,10 +13,10 @@ slice-aggregate-result : tie.Need-slice-aggregate-result
 slice-aggregate-result c = search needs
 
 returns : tie.Need-returns
-returns c = (simp (lt-ltb _ _ (c .before .if1 .taken)), refl, search needs)
+returns c = (simp (le-ltb _ _ (c .if1 .taken)), refl, omega (arith, c .if1 .taken))
 
 returns-2 : tie.Need-returns-2
-returns-2 c = (simp (le-ltb _ _ (c .if1 .left)), refl, omega (arith, c .if1 .left))
+returns-2 c = (simp (lt-ltb _ _ (c .before .if1 .left)), refl, search needs)
 
 pub held-spec : {M : Type 1} → statement M
-held-spec = tie.close (tie.spec slice-aggregate-result returns returns-2)
+held-spec = tie.close (tie.spec returns slice-aggregate-result returns-2)
