@@ -1,8 +1,6 @@
 // Reads the items that a row of a passed table asks for from a message, and keeps their values in the slices that are lent.
-// A row's own items come first (begin.rt); then the rows that it refers to, each earlier in the table.
-mod begin;
-
-use answer::Refusal;
+// A row's own items come first (read_begin); then the rows that it refers to, each earlier in the table.
+use read_begin::Begun;
 use read_steps::Cursor;
 use read_steps::Step;
 use row::Row;
@@ -17,16 +15,6 @@ ghost use Rattle.encoding.specs.Rows.{items};
 ghost use Rattle.read_steps.specs.Reads.{Reads, stateAt};
 ghost use Rattle.parts.specs.Parts.{markedFields, fieldIf};
 
-// What a row's own items leave to be read: nothing, a run of the row at an offset, the row at an offset, the fields of the
-// record that a mask marks as present (the first field on top); or the refusal.
-pub enum Begun {
-    Done(Cursor),
-    Run(usize, usize, Cursor),
-    Branch(usize, Cursor),
-    Fields(u32, Cursor),
-    Refused(Refusal),
-}
-
 // The row at an offset.
 pub fn read_row(
     table: &[u8],
@@ -40,7 +28,7 @@ pub fn read_row(
     requires { ⌜ Obeys (now table) × Starts (now table) at × (length (now message) ≤ mostOctets) ⌝ }
     ensures { λ r. ⌜ Reads (now (message .entry)) room (items (now (table .entry)) at) (stateAt cursor (now (values .entry)) (now (packed .entry))) (now (values .exit)) (now (packed .exit)) r ⌝ }
 {
-    let begun = begin::begin(table, at, message, values, packed, room, cursor);
+    let begun = read_begin::begin(table, at, message, values, packed, room, cursor);
     match begun {
         Begun::Done(next) => Step::Past(next),
         Begun::Run(count, row, next) => read_run(

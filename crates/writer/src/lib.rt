@@ -1,9 +1,7 @@
 // Writes the items that a row of a passed table asks for into an output, from the values of a list in the slices that are lent.
-// A row's own items come first (begin.rt); then the rows that it refers to, each earlier in the table.
-mod begin;
-
-use answer::Refusal;
+// A row's own items come first (write_begin); then the rows that it refers to, each earlier in the table.
 use row::Row;
+use write_begin::Begun;
 use write_steps::Cursor;
 use write_steps::Step;
 ghost use mathlib.Core.Path.{_≡_};
@@ -17,16 +15,6 @@ ghost use Rattle.encoding.specs.Rows.{items};
 ghost use Rattle.parts.specs.Parts.{markedFields, fieldIf};
 ghost use Rattle.write_steps.specs.Writes.{Writes, listIn, stateAt};
 
-// What a row's own items leave to be written: nothing, a run of the row at an offset, the row at an offset, the fields of the
-// record that a mask marks as present (the first field on top); or the refusal.
-pub enum Begun {
-    Done(Cursor),
-    Run(usize, usize, Cursor),
-    Branch(usize, Cursor),
-    Fields(u32, Cursor),
-    Refused(Refusal),
-}
-
 // The row at an offset.
 pub fn write_row(
     table: &[u8],
@@ -39,7 +27,7 @@ pub fn write_row(
     requires { ⌜ Obeys (now table) × Starts (now table) at × (length (now output) ≤ mostOctets) ⌝ }
     ensures { λ r. ⌜ Writes (listIn (now (values .entry)) (now (packed .entry))) (items (now (table .entry)) at) (stateAt cursor (now (output .entry))) (now (output .exit)) r ⌝ }
 {
-    let begun = begin::begin(table, at, values, packed, output, cursor);
+    let begun = write_begin::begin(table, at, values, packed, output, cursor);
     match begun {
         Begun::Done(next) => Step::Past(next),
         Begun::Run(count, row, next) => write_run(

@@ -35,7 +35,7 @@ use Rattle.reader.proofs.read_run.Kinds as read-run-kinds
 use Rattle.reader.proofs.+read_field+read_fields+read_row+read_run.Lts-read_run as read-run-lts
 use Rattle.row.proofs.Row.count_at.Reads as count-at-reads
 use Rattle.row.proofs.Row.field_at.Reads as field-at-reads
-use Rattle.reader.proofs.begin.begin.Reads as begin-reads
+use Rattle.read_begin.proofs.begin.Reads as begin-reads
 use Rattle.parts.proofs.is_marked.Reads as is-marked-reads
 use Rattle.reader.proofs.+read_field+read_fields+read_row+read_run.{statement}
 use Rattle.reader.proofs.+read_field+read_fields+read_row+read_run.Tie.{close}

@@ -36,7 +36,7 @@ use Rattle.writer.proofs.+write_field+write_fields+write_row+write_run.
 use Rattle.row.proofs.Row.count_at.Reads as count-at-reads
 use Rattle.row.proofs.Row.field_at.Reads as field-at-reads
 use Rattle.parts.proofs.is_marked.Reads as is-marked-reads
-use Rattle.writer.proofs.begin.begin.Reads as begin-reads
+use Rattle.write_begin.proofs.begin.Reads as begin-reads
 use Rattle.writer.proofs.+write_field+write_fields+write_row+write_run.{statement}
 use Rattle.writer.proofs.+write_field+write_fields+write_row+write_run.Tie.{close}
 

@@ -1,0 +1,63 @@
+-- The beginning of each kind of row: from the item that was read and kept to what is left.
+-- Assumes nothing.
+use Prim.Native.Nat.{ℕ, _+_, _*_, _/_, _%_}
+use mathlib.Core.Bool.{Bool}
+use mathlib.Core.Logic.{_≢_}
+use mathlib.Core.Path.{_≡_, refl}
+use mathlib.Core.List.{List, _∷_}
+use native.Mathlib.Omega.{arith}
+use lib.Dec.{eqb}
+use lib.IntN.{ℤ, pos}
+use Rattle.answer.specs.declared.Refusal.{Refusal}
+use Rattle.item.specs.Code.{Code, number, natural}
+use Rattle.item.specs.declared.Item.{Item}
+use Rattle.items.specs.Items.{Items, stop, one}
+use Rattle.encoding.specs.Rows.{presence}
+use Rattle.parts.proofs.Records.{presence-always, presence-optional}
+use Rattle.read_steps.specs.declared.Cursor.{Cursor}
+use Rattle.read_steps.specs.declared.Step.{Step}
+use Rattle.read_steps.specs.declared.Step.the-variants.{Past, Refused}
+use Rattle.read_begin.specs.declared.Begun.the-variants.{Fields}
+use Rattle.read_steps.specs.Reads.{State, Reads, countOf}
+use Rattle.read_steps.proofs.Keeping.{Keeping, first-refused, first-kept}
+use Rattle.read_begin.specs.Begins.{wholeOf, Begins, Marks}
+use Rattle.read_steps.proofs.Flow.{continues-same, continues-done}
+
+-- ── rows ──
+
+-- a row that was read whole leaves nothing
+pub begins-reads : (t : List ℕ) (o : ℕ) {message : List ℕ} {room : ℕ} {p : Items} {from : State} {values : List ℤ} {packed : List ℕ} (step : Step)
+    → Reads message room p from values packed step → Begins t o message room p from values packed (wholeOf step)
+begins-reads t o (Past to) r = continues-done r
+begins-reads t o (Refused refusal) r = r
+
+-- a row that asks for one item
+pub begins-one : (t : List ℕ) (o : ℕ) {c : Code} {message : List ℕ} {room : ℕ} {from : State} {values : List ℤ} {packed : List ℕ} {item : Item} (step : Step)
+    → Keeping c message room from values packed item step → Begins t o message room (one c) from values packed (wholeOf step)
+unfolding one
+begins-one t o {c} (Past to) q = first-kept c (λ v. stop) refl q refl
+begins-one t o {c} (Refused refusal) q = first-refused c (λ v. stop) refl q refl
+
+-- ── presence bits ──
+
+-- a field that is always there
+pub marks-always : (flag mask : ℕ) {message : List ℕ} {room : ℕ} {from : State} (marked : ℕ) → flag ≡ 0 → marked ≡ mask * 2 + 1
+    → Marks flag mask message room from (from .values) (from .packed) (Fields marked (from .cursor))
+marks-always flag mask marked ef em =
+    let odd : marked % 2 ≡ 1 = omega arith in
+    (omega arith, λ flags k. continues-same (rw odd (presence-always flag flags k ef)))
+
+-- what follows the presence bit of an optional field
+abbrev marked-rest : List ℕ → (List Bool → Items) → ℤ → Items
+marked-rest flags k v = presence flags (λ ps. k (eqb (natural v) 1 ∷ ps))
+
+-- an optional field by its presence bit
+module _ {flag : ℕ} (optional : flag ≢ 0) {message : List ℕ} {room : ℕ} {from : State} {values : List ℤ} {packed : List ℕ} {item : Item} {step : Step}
+    (q : Keeping (number (pos 0) 1) message room from values packed item step) where
+  pub marks-refused : {refusal : Refusal} → step ≡ Refused refusal
+      → (flags : List ℕ) (k : List Bool → Items) → Reads message room (presence (flag ∷ flags) k) from values packed (Refused refusal)
+  marks-refused e flags k = first-refused (number (pos 0) 1) (marked-rest flags k) (presence-optional flag flags k optional) q e
+
+  pub marks-bit : (mask marked : ℕ) {next : Cursor} → step ≡ Past next → marked / 2 ≡ mask → eqb (marked % 2) 1 ≡ eqb (countOf item) 1
+      → Marks flag mask message room from values packed (Fields marked next)
+  marks-bit mask marked e em eb = (em, λ flags k. rw eb (first-kept (number (pos 0) 1) (marked-rest flags k) (presence-optional flag flags k optional) q e))

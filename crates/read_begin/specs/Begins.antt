@@ -1,0 +1,43 @@
+-- What the reader of a row leaves to be read once the row's own items are: the parts that it refers to.
+use Prim.Native.Nat.{ℕ, _+_, _/_, _%_, _<_, _^_}
+use mathlib.Core.Bool.{Bool}
+use mathlib.Core.Path.{_≡_}
+use mathlib.Core.List.{List, _∷_}
+use lib.Dec.{eqb}
+use lib.IntN.{ℤ}
+use Rattle.octets.specs.Numbers.{u16}
+use Rattle.rules.specs.Rules.{Earlier}
+use Rattle.items.specs.Items.{Items, stop, times}
+use Rattle.encoding.specs.Rows.{presence, items}
+use Rattle.parts.specs.Parts.{markedFields}
+use Rattle.read_steps.specs.declared.Step.{Step}
+use Rattle.read_steps.specs.declared.Step.the-variants.{Past, Refused as StepRefused}
+use Rattle.read_begin.specs.declared.Begun.{Begun}
+use Rattle.read_begin.specs.declared.Begun.the-variants.{Done, Run, Branch, Fields, Refused}
+use Rattle.read_steps.specs.Reads.{State, stateAt, Reads, Continues}
+
+-- a step as the beginning of a row that asks for no more
+abbrev pub wholeOf : Step → Begun
+wholeOf (Past to) = Done to
+wholeOf (StepRefused refusal) = Refused refusal
+
+-- the items p of the row at o, begun: refused; or what is left of them, on earlier rows
+abbrev pub Begins : List ℕ → ℕ → List ℕ → ℕ → Items → State → List ℤ → List ℕ → Begun → Type 0
+Begins t o message room p from values packed (Done to) = Continues message room p from stop (stateAt to values packed)
+Begins t o message room p from values packed (Run count row to) =
+    Earlier t o row × Continues message room p from (times count (items t row)) (stateAt to values packed)
+Begins t o message room p from values packed (Branch row to) = Earlier t o row × Continues message room p from (items t row) (stateAt to values packed)
+Begins t o message room p from values packed (Fields mask to) =
+    (u16 t (o + 2) ≡ 5) × (mask < 2 ^ u16 t (o + 4)) × Continues message room p from (markedFields t o mask) (stateAt to values packed)
+Begins t o message room p from values packed (Refused refusal) = Reads message room p from values packed (StepRefused refusal)
+
+-- a field marked by its flag: always, or by a presence bit; the mark stands lowest in the new mask
+abbrev pub Marks : ℕ → ℕ → List ℕ → ℕ → State → List ℤ → List ℕ → Begun → Type 0
+Marks flag mask message room from values packed (Fields marked to) =
+    (marked / 2 ≡ mask) × ((flags : List ℕ) (k : List Bool → Items)
+    → Continues message room (presence (flag ∷ flags) k) from (presence flags (λ ps. k (eqb (marked % 2) 1 ∷ ps))) (stateAt to values packed))
+Marks flag mask message room from values packed (Refused refusal) =
+    (flags : List ℕ) (k : List Bool → Items) → Reads message room (presence (flag ∷ flags) k) from values packed (StepRefused refusal)
+Marks flag mask message room from values packed (Done to) = ⊥
+Marks flag mask message room from values packed (Run count row to) = ⊥
+Marks flag mask message room from values packed (Branch row to) = ⊥

@@ -1,0 +1,228 @@
+// The items of a row that are its own: a number, a variable number, octets, the length of a counted run, the presence bits of
+// a record, the index of a choice. Each is read, and kept where there is room for its value.
+use answer::Refusal;
+use read_steps::Cursor;
+use read_steps::Step;
+use row::Row;
+ghost use mathlib.Core.Path.{_≡_};
+ghost use Prim.Native.Nat.{_+_, _<_, _≤_};
+ghost use lib.ListN.{length};
+ghost use Rattle.bits.specs.Access.{mostOctets};
+ghost use Rattle.octets.specs.Numbers.{u16, u32, signed};
+ghost use Rattle.item.specs.Code.{Code};
+ghost use Rattle.rules.specs.Rules.{Obeys, Starts};
+ghost use Rattle.items.specs.Items.{one};
+ghost use Rattle.encoding.specs.Rows.{items};
+ghost use Rattle.read_steps.specs.Reads.{stateAt};
+ghost use Rattle.read_begin.specs.Begins.{Begins, Marks, wholeOf};
+
+// What a row's own items leave to be read: nothing, a run of the row at an offset, the row at an offset, the fields of the
+// record that a mask marks as present (the first field on top); or the refusal.
+pub enum Begun {
+    Done(Cursor),
+    Run(usize, usize, Cursor),
+    Branch(usize, Cursor),
+    Fields(u32, Cursor),
+    Refused(Refusal),
+}
+
+// A step as the beginning of a row that asks for no more.
+fn whole(step: Step) -> Begun
+    ensures { λ r. ⌜ r ≡ wholeOf step ⌝ }
+{
+    match step {
+        Step::Past(next) => Begun::Done(next),
+        Step::Refused(refusal) => Begun::Refused(refusal),
+    }
+}
+
+// A number row.
+fn begin_number(
+    table: &[u8],
+    at: usize,
+    message: &[u8],
+    values: &mut [i64],
+    packed: &mut [u8],
+    room: usize,
+    cursor: Cursor,
+) -> Begun
+    requires { ⌜ (at + 12 ≤ length (now table)) × (length (now message) ≤ mostOctets) ⌝ }
+    ensures { λ r. ⌜ Begins (now (table .entry)) at (now (message .entry)) room (one (Code.number (signed (u32 (now (table .entry)) (at + 4))) (u32 (now (table .entry)) (at + 8)))) (stateAt cursor (now (values .entry)) (now (packed .entry))) (now (values .exit)) (now (packed .exit)) r ⌝ }
+{
+    let low = Row::low_at(table, at);
+    let span = Row::span_at(table, at);
+    let item = read_item::number(message, cursor.place, low, span as u32);
+    whole(read_steps::kept(item, values, packed, room, cursor))
+}
+
+// A variable number row.
+fn begin_variable(
+    table: &[u8],
+    at: usize,
+    message: &[u8],
+    values: &mut [i64],
+    packed: &mut [u8],
+    room: usize,
+    cursor: Cursor,
+) -> Begun
+    requires { ⌜ length (now message) ≤ mostOctets ⌝ }
+    ensures { λ r. ⌜ Begins (now (table .entry)) at (now (message .entry)) room (one Code.variable) (stateAt cursor (now (values .entry)) (now (packed .entry))) (now (values .exit)) (now (packed .exit)) r ⌝ }
+{
+    let item = read_item::variable(message, cursor.place);
+    whole(read_steps::kept(item, values, packed, room, cursor))
+}
+
+// A row of octets: a length, then each octet.
+fn begin_octets(
+    table: &[u8],
+    at: usize,
+    message: &[u8],
+    values: &mut [i64],
+    packed: &mut [u8],
+    room: usize,
+    cursor: Cursor,
+) -> Begun
+    requires { ⌜ Obeys (now table) × Starts (now table) at × (u16 (now table) (at + 2) ≡ 7) × (length (now message) ≤ mostOctets) ⌝ }
+    ensures { λ r. ⌜ Begins (now (table .entry)) at (now (message .entry)) room (items (now (table .entry)) at) (stateAt cursor (now (values .entry)) (now (packed .entry))) (now (values .exit)) (now (packed .exit)) r ⌝ }
+{
+    let most = Row::count_at(table, at);
+    let item = read_item::length(message, cursor.place, 0, most as u32);
+    let step = read_steps::kept(item, values, packed, room, cursor);
+    let Step::Past(next) = step else {
+        return whole(step);
+    };
+    let count = read_steps::count_of(item);
+    whole(read_steps::read_octets(count, message, values, packed, room, next))
+}
+
+// A counted run: a length, which leaves that many items of the row that it refers to.
+fn begin_counted(
+    table: &[u8],
+    at: usize,
+    message: &[u8],
+    values: &mut [i64],
+    packed: &mut [u8],
+    room: usize,
+    cursor: Cursor,
+) -> Begun
+    requires { ⌜ Obeys (now table) × Starts (now table) at × (u16 (now table) (at + 2) ≡ 4) × (length (now message) ≤ mostOctets) ⌝ }
+    ensures { λ r. ⌜ Begins (now (table .entry)) at (now (message .entry)) room (items (now (table .entry)) at) (stateAt cursor (now (values .entry)) (now (packed .entry))) (now (values .exit)) (now (packed .exit)) r ⌝ }
+{
+    let most = Row::count_at(table, at);
+    let row = Row::run_at(table, at);
+    let item = read_item::length(message, cursor.place, 0, most as u32);
+    let step = read_steps::kept(item, values, packed, room, cursor);
+    let Step::Past(next) = step else {
+        return whole(step);
+    };
+    Begun::Run(read_steps::count_of(item), row, next)
+}
+
+// A choice: an index, which leaves the row of its branch.
+fn begin_choice(
+    table: &[u8],
+    at: usize,
+    message: &[u8],
+    values: &mut [i64],
+    packed: &mut [u8],
+    room: usize,
+    cursor: Cursor,
+) -> Begun
+    requires { ⌜ Obeys (now table) × Starts (now table) at × (u16 (now table) (at + 2) ≡ 6) × (length (now message) ≤ mostOctets) ⌝ }
+    ensures { λ r. ⌜ Begins (now (table .entry)) at (now (message .entry)) room (items (now (table .entry)) at) (stateAt cursor (now (values .entry)) (now (packed .entry))) (now (values .exit)) (now (packed .exit)) r ⌝ }
+{
+    let branches = Row::count_at(table, at);
+    let item = read_item::index(message, cursor.place, table, at + Row::HEAD, branches);
+    let step = read_steps::kept(item, values, packed, room, cursor);
+    let Step::Past(next) = step else {
+        return whole(step);
+    };
+    let row = Row::branch_at(table, at, read_steps::count_of(item));
+    Begun::Branch(row, next)
+}
+
+// A field's mark behind those before it: set where the field is always there, else its presence bit, which is a value.
+fn mark(
+    flag: usize,
+    mask: u32,
+    message: &[u8],
+    values: &mut [i64],
+    packed: &mut [u8],
+    room: usize,
+    cursor: Cursor,
+) -> Begun
+    requires { ⌜ (mask < 2147483648) × (length (now message) ≤ mostOctets) ⌝ }
+    ensures { λ r. ⌜ Marks flag mask (now (message .entry)) room (stateAt cursor (now (values .entry)) (now (packed .entry))) (now (values .exit)) (now (packed .exit)) r ⌝ }
+{
+    if flag == 0 {
+        return Begun::Fields(mask * 2 + 1, cursor);
+    }
+    let item = read_item::number(message, cursor.place, 0, 1);
+    let step = read_steps::kept(item, values, packed, room, cursor);
+    let Step::Past(next) = step else {
+        return whole(step);
+    };
+    if read_steps::count_of(item) == 1 {
+        return Begun::Fields(mask * 2 + 1, next);
+    }
+    Begun::Fields(mask * 2, next)
+}
+
+// A record: a presence bit for each optional field, which leave the fields that are present.
+fn begin_record(
+    table: &[u8],
+    at: usize,
+    message: &[u8],
+    values: &mut [i64],
+    packed: &mut [u8],
+    room: usize,
+    cursor: Cursor,
+) -> Begun
+    requires { ⌜ Obeys (now table) × Starts (now table) at × (u16 (now table) (at + 2) ≡ 5) × (length (now message) ≤ mostOctets) ⌝ }
+    ensures { λ r. ⌜ Begins (now (table .entry)) at (now (message .entry)) room (items (now (table .entry)) at) (stateAt cursor (now (values .entry)) (now (packed .entry))) (now (values .exit)) (now (packed .exit)) r ⌝ }
+{
+    let fields = Row::count_at(table, at);
+    let mut field = 0;
+    let mut mask = 0u32;
+    let mut here = cursor;
+    while field < fields {
+        let flag = Row::flag_at(table, at, field);
+        let begun = mark(flag, mask, message, values, packed, room, here);
+        let Begun::Fields(marked, next) = begun else {
+            return begun;
+        };
+        mask = marked;
+        here = next;
+        field += 1;
+    }
+    Begun::Fields(mask, here)
+}
+
+// The row at an offset: its own items, and what they leave.
+pub fn begin(
+    table: &[u8],
+    at: usize,
+    message: &[u8],
+    values: &mut [i64],
+    packed: &mut [u8],
+    room: usize,
+    cursor: Cursor,
+) -> Begun
+    requires { ⌜ Obeys (now table) × Starts (now table) at × (length (now message) ≤ mostOctets) ⌝ }
+    ensures { λ r. ⌜ Begins (now (table .entry)) at (now (message .entry)) room (items (now (table .entry)) at) (stateAt cursor (now (values .entry)) (now (packed .entry))) (now (values .exit)) (now (packed .exit)) r ⌝ }
+{
+    let kind = Row::kind_at(table, at);
+    match kind {
+        Row::NUMBER => begin_number(table, at, message, values, packed, room, cursor),
+        Row::VARIABLE => begin_variable(table, at, message, values, packed, room, cursor),
+        Row::FIXED_RUN => {
+            let count = Row::count_at(table, at);
+            let row = Row::run_at(table, at);
+            Begun::Run(count, row, cursor)
+        }
+        Row::COUNTED_RUN => begin_counted(table, at, message, values, packed, room, cursor),
+        Row::RECORD => begin_record(table, at, message, values, packed, room, cursor),
+        Row::CHOICE => begin_choice(table, at, message, values, packed, room, cursor),
+        _ => begin_octets(table, at, message, values, packed, room, cursor),
+    }
+}

@@ -1,0 +1,245 @@
+// The items of a row that are its own: a number, a variable number, octets, the length of a counted run, the presence bits of
+// a record, the index of a choice. Each takes the next value of the list; a value that is missing is refused as a wrong one.
+use answer::Refusal;
+use row::Row;
+use write_steps::Cursor;
+use write_steps::Given;
+use write_steps::Step;
+ghost use mathlib.Core.Path.{_≡_};
+ghost use Prim.Native.Nat.{_+_, _<_, _≤_};
+ghost use lib.ListN.{length};
+ghost use Rattle.bits.specs.Access.{mostOctets};
+ghost use Rattle.octets.specs.Numbers.{u16, u32, signed};
+ghost use Rattle.item.specs.Code.{Code};
+ghost use Rattle.rules.specs.Rules.{Obeys, Starts};
+ghost use Rattle.items.specs.Items.{one};
+ghost use Rattle.encoding.specs.Rows.{items};
+ghost use Rattle.write_steps.specs.Writes.{listIn, stateAt};
+ghost use Rattle.write_begin.specs.Begins.{Begins, Marks, wholeOf};
+
+// What a row's own items leave to be written: nothing, a run of the row at an offset, the row at an offset, the fields of the
+// record that a mask marks as present (the first field on top); or the refusal.
+pub enum Begun {
+    Done(Cursor),
+    Run(usize, usize, Cursor),
+    Branch(usize, Cursor),
+    Fields(u32, Cursor),
+    Refused(Refusal),
+}
+
+// A step as the beginning of a row that asks for no more.
+fn whole(step: Step) -> Begun
+    ensures { λ r. ⌜ r ≡ wholeOf step ⌝ }
+{
+    match step {
+        Step::Past(next) => Begun::Done(next),
+        Step::Refused(refusal) => Begun::Refused(refusal),
+    }
+}
+
+// A number row.
+fn begin_number(
+    table: &[u8],
+    at: usize,
+    values: &[i64],
+    packed: &[u8],
+    output: &mut [u8],
+    cursor: Cursor,
+) -> Begun
+    requires { ⌜ (at + 12 ≤ length (now table)) × (length (now output) ≤ mostOctets) ⌝ }
+    ensures { λ r. ⌜ Begins (now (table .entry)) at (listIn (now (values .entry)) (now (packed .entry))) (one (Code.number (signed (u32 (now (table .entry)) (at + 4))) (u32 (now (table .entry)) (at + 8)))) (stateAt cursor (now (output .entry))) (now (output .exit)) r ⌝ }
+{
+    let given = write_steps::next_value(values, packed, cursor.index);
+    let Given::Value(value, after) = given else {
+        return Begun::Refused(write_steps::missing(cursor.index));
+    };
+    let low = Row::low_at(table, at);
+    let span = Row::span_at(table, at);
+    let put = write_item::number(output, cursor.place, low, span as u32, value);
+    whole(write_steps::moved(put, cursor.index, after))
+}
+
+// A variable number row.
+fn begin_variable(
+    table: &[u8],
+    at: usize,
+    values: &[i64],
+    packed: &[u8],
+    output: &mut [u8],
+    cursor: Cursor,
+) -> Begun
+    requires { ⌜ length (now output) ≤ mostOctets ⌝ }
+    ensures { λ r. ⌜ Begins (now (table .entry)) at (listIn (now (values .entry)) (now (packed .entry))) (one Code.variable) (stateAt cursor (now (output .entry))) (now (output .exit)) r ⌝ }
+{
+    let given = write_steps::next_value(values, packed, cursor.index);
+    let Given::Value(value, after) = given else {
+        return Begun::Refused(write_steps::missing(cursor.index));
+    };
+    let put = write_item::variable(output, cursor.place, value);
+    whole(write_steps::moved(put, cursor.index, after))
+}
+
+// A row of octets: a length, then each octet.
+fn begin_octets(
+    table: &[u8],
+    at: usize,
+    values: &[i64],
+    packed: &[u8],
+    output: &mut [u8],
+    cursor: Cursor,
+) -> Begun
+    requires { ⌜ Obeys (now table) × Starts (now table) at × (u16 (now table) (at + 2) ≡ 7) × (length (now output) ≤ mostOctets) ⌝ }
+    ensures { λ r. ⌜ Begins (now (table .entry)) at (listIn (now (values .entry)) (now (packed .entry))) (items (now (table .entry)) at) (stateAt cursor (now (output .entry))) (now (output .exit)) r ⌝ }
+{
+    let given = write_steps::next_value(values, packed, cursor.index);
+    let Given::Value(value, after) = given else {
+        return Begun::Refused(write_steps::missing(cursor.index));
+    };
+    let most = Row::count_at(table, at);
+    let put = write_item::length(output, cursor.place, 0, most as u32, value);
+    let step = write_steps::moved(put, cursor.index, after);
+    let Step::Past(next) = step else {
+        return whole(step);
+    };
+    let count = item::count_of(value);
+    whole(write_steps::write_octets(count, values, packed, output, next))
+}
+
+// A counted run: a length, which leaves that many items of the row that it refers to.
+fn begin_counted(
+    table: &[u8],
+    at: usize,
+    values: &[i64],
+    packed: &[u8],
+    output: &mut [u8],
+    cursor: Cursor,
+) -> Begun
+    requires { ⌜ Obeys (now table) × Starts (now table) at × (u16 (now table) (at + 2) ≡ 4) × (length (now output) ≤ mostOctets) ⌝ }
+    ensures { λ r. ⌜ Begins (now (table .entry)) at (listIn (now (values .entry)) (now (packed .entry))) (items (now (table .entry)) at) (stateAt cursor (now (output .entry))) (now (output .exit)) r ⌝ }
+{
+    let given = write_steps::next_value(values, packed, cursor.index);
+    let Given::Value(value, after) = given else {
+        return Begun::Refused(write_steps::missing(cursor.index));
+    };
+    let most = Row::count_at(table, at);
+    let row = Row::run_at(table, at);
+    let put = write_item::length(output, cursor.place, 0, most as u32, value);
+    let step = write_steps::moved(put, cursor.index, after);
+    let Step::Past(next) = step else {
+        return whole(step);
+    };
+    Begun::Run(item::count_of(value), row, next)
+}
+
+// A choice: an index, which leaves the row of its branch.
+fn begin_choice(
+    table: &[u8],
+    at: usize,
+    values: &[i64],
+    packed: &[u8],
+    output: &mut [u8],
+    cursor: Cursor,
+) -> Begun
+    requires { ⌜ Obeys (now table) × Starts (now table) at × (u16 (now table) (at + 2) ≡ 6) × (length (now output) ≤ mostOctets) ⌝ }
+    ensures { λ r. ⌜ Begins (now (table .entry)) at (listIn (now (values .entry)) (now (packed .entry))) (items (now (table .entry)) at) (stateAt cursor (now (output .entry))) (now (output .exit)) r ⌝ }
+{
+    let given = write_steps::next_value(values, packed, cursor.index);
+    let Given::Value(value, after) = given else {
+        return Begun::Refused(write_steps::missing(cursor.index));
+    };
+    let branches = Row::count_at(table, at);
+    let put = write_item::index(output, cursor.place, table, at + Row::HEAD, branches, value);
+    let step = write_steps::moved(put, cursor.index, after);
+    let Step::Past(next) = step else {
+        return whole(step);
+    };
+    let row = Row::branch_at(table, at, item::count_of(value));
+    Begun::Branch(row, next)
+}
+
+// A field's mark behind those before it: set where the field is always there, else by its presence value, whose bit is written.
+fn mark(
+    flag: usize,
+    mask: u32,
+    values: &[i64],
+    packed: &[u8],
+    output: &mut [u8],
+    cursor: Cursor,
+) -> Begun
+    requires { ⌜ (mask < 2147483648) × (length (now output) ≤ mostOctets) ⌝ }
+    ensures { λ r. ⌜ Marks flag mask (listIn (now (values .entry)) (now (packed .entry))) (stateAt cursor (now (output .entry))) (now (output .exit)) r ⌝ }
+{
+    if flag == 0 {
+        return Begun::Fields(mask * 2 + 1, cursor);
+    }
+    let given = write_steps::next_value(values, packed, cursor.index);
+    let Given::Value(value, after) = given else {
+        return Begun::Refused(write_steps::missing(cursor.index));
+    };
+    let put = write_item::number(output, cursor.place, 0, 1, value);
+    let step = write_steps::moved(put, cursor.index, after);
+    let Step::Past(next) = step else {
+        return whole(step);
+    };
+    if item::count_of(value) == 1 {
+        return Begun::Fields(mask * 2 + 1, next);
+    }
+    Begun::Fields(mask * 2, next)
+}
+
+// A record: a presence value for each optional field, which leave the fields that are present.
+fn begin_record(
+    table: &[u8],
+    at: usize,
+    values: &[i64],
+    packed: &[u8],
+    output: &mut [u8],
+    cursor: Cursor,
+) -> Begun
+    requires { ⌜ Obeys (now table) × Starts (now table) at × (u16 (now table) (at + 2) ≡ 5) × (length (now output) ≤ mostOctets) ⌝ }
+    ensures { λ r. ⌜ Begins (now (table .entry)) at (listIn (now (values .entry)) (now (packed .entry))) (items (now (table .entry)) at) (stateAt cursor (now (output .entry))) (now (output .exit)) r ⌝ }
+{
+    let fields = Row::count_at(table, at);
+    let mut field = 0;
+    let mut mask = 0u32;
+    let mut here = cursor;
+    while field < fields {
+        let flag = Row::flag_at(table, at, field);
+        let begun = mark(flag, mask, values, packed, output, here);
+        let Begun::Fields(marked, next) = begun else {
+            return begun;
+        };
+        mask = marked;
+        here = next;
+        field += 1;
+    }
+    Begun::Fields(mask, here)
+}
+
+// The row at an offset: its own items, and what they leave.
+pub fn begin(
+    table: &[u8],
+    at: usize,
+    values: &[i64],
+    packed: &[u8],
+    output: &mut [u8],
+    cursor: Cursor,
+) -> Begun
+    requires { ⌜ Obeys (now table) × Starts (now table) at × (length (now output) ≤ mostOctets) ⌝ }
+    ensures { λ r. ⌜ Begins (now (table .entry)) at (listIn (now (values .entry)) (now (packed .entry))) (items (now (table .entry)) at) (stateAt cursor (now (output .entry))) (now (output .exit)) r ⌝ }
+{
+    let kind = Row::kind_at(table, at);
+    match kind {
+        Row::NUMBER => begin_number(table, at, values, packed, output, cursor),
+        Row::VARIABLE => begin_variable(table, at, values, packed, output, cursor),
+        Row::FIXED_RUN => {
+            let count = Row::count_at(table, at);
+            let row = Row::run_at(table, at);
+            Begun::Run(count, row, cursor)
+        }
+        Row::COUNTED_RUN => begin_counted(table, at, values, packed, output, cursor),
+        Row::RECORD => begin_record(table, at, values, packed, output, cursor),
+        Row::CHOICE => begin_choice(table, at, values, packed, output, cursor),
+        _ => begin_octets(table, at, values, packed, output, cursor),
+    }
+}
