@@ -3,15 +3,15 @@
 use Prim.Native.Nat.{ℕ, _+_, _*_, _/_, _%_}
 use mathlib.Core.Bool.{Bool}
 use mathlib.Core.Logic.{_≢_}
-use mathlib.Core.Path.{_≡_, refl}
+use mathlib.Core.Path.{_≡_}
 use mathlib.Core.List.{List, _∷_}
 use native.Mathlib.Omega.{arith}
 use lib.Dec.{eqb}
 use lib.IntN.{ℤ, pos}
 use Rattle.answer.specs.declared.Refusal.{Refusal}
-use Rattle.item.specs.Code.{Code, number, natural}
+use Rattle.item.specs.Code.{number, natural}
 use Rattle.item.specs.declared.Item.{Item}
-use Rattle.items.specs.Items.{Items, stop, one}
+use Rattle.items.specs.Items.{Items}
 use Rattle.encoding.specs.Rows.{presence}
 use Rattle.parts.proofs.Records.{presence-always, presence-optional}
 use Rattle.read_steps.specs.declared.Cursor.{Cursor}
@@ -30,13 +30,6 @@ pub begins-reads : (t : List ℕ) (o : ℕ) {message : List ℕ} {room : ℕ} {p
     → Reads message room p from values packed step → Begins t o message room p from values packed (wholeOf step)
 begins-reads t o (Past to) r = continues-done r
 begins-reads t o (Refused refusal) r = r
-
--- a row that asks for one item
-pub begins-one : (t : List ℕ) (o : ℕ) {c : Code} {message : List ℕ} {room : ℕ} {from : State} {values : List ℤ} {packed : List ℕ} {item : Item} (step : Step)
-    → Keeping c message room from values packed item step → Begins t o message room (one c) from values packed (wholeOf step)
-unfolding one
-begins-one t o {c} (Past to) q = first-kept c (λ v. stop) refl q refl
-begins-one t o {c} (Refused refusal) q = first-refused c (λ v. stop) refl q refl
 
 -- ── presence bits ──
 

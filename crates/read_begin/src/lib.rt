@@ -1,5 +1,5 @@
-// The items of a row that are its own: a number, a variable number, octets, the length of a counted run, the presence bits of
-// a record, the index of a choice. Each is read, and kept where there is room for its value.
+// The beginning of a row: the items that are its own. All of them where it refers to no other row (read_leaf), else the length of
+// a counted run, the presence bits of a record, the index of a choice; and what they leave to be read.
 use answer::Refusal;
 use read_steps::Cursor;
 use read_steps::Step;
@@ -8,10 +8,8 @@ ghost use mathlib.Core.Path.{_≡_};
 ghost use Prim.Native.Nat.{_+_, _<_, _≤_};
 ghost use lib.ListN.{length};
 ghost use Rattle.bits.specs.Access.{mostOctets};
-ghost use Rattle.octets.specs.Numbers.{u16, u32, signed};
-ghost use Rattle.item.specs.Code.{Code};
+ghost use Rattle.octets.specs.Numbers.{u16, u32};
 ghost use Rattle.rules.specs.Rules.{Obeys, Starts};
-ghost use Rattle.items.specs.Items.{one};
 ghost use Rattle.encoding.specs.Rows.{items};
 ghost use Rattle.read_steps.specs.Reads.{stateAt};
 ghost use Rattle.read_begin.specs.Begins.{Begins, Marks, wholeOf};
@@ -34,65 +32,6 @@ fn whole(step: Step) -> Begun
         Step::Past(next) => Begun::Done(next),
         Step::Refused(refusal) => Begun::Refused(refusal),
     }
-}
-
-// A number row.
-fn begin_number(
-    table: &[u8],
-    at: usize,
-    message: &[u8],
-    values: &mut [i64],
-    packed: &mut [u8],
-    room: usize,
-    cursor: Cursor,
-) -> Begun
-    requires { ⌜ (at + 12 ≤ length (now table)) × (length (now message) ≤ mostOctets) ⌝ }
-    ensures { λ r. ⌜ Begins (now (table .entry)) at (now (message .entry)) room (one (Code.number (signed (u32 (now (table .entry)) (at + 4))) (u32 (now (table .entry)) (at + 8)))) (stateAt cursor (now (values .entry)) (now (packed .entry))) (now (values .exit)) (now (packed .exit)) r ⌝ }
-{
-    let low = Row::low_at(table, at);
-    let span = Row::span_at(table, at);
-    let item = read_item::number(message, cursor.place, low, span as u32);
-    whole(read_steps::kept(item, values, packed, room, cursor))
-}
-
-// A variable number row.
-fn begin_variable(
-    table: &[u8],
-    at: usize,
-    message: &[u8],
-    values: &mut [i64],
-    packed: &mut [u8],
-    room: usize,
-    cursor: Cursor,
-) -> Begun
-    requires { ⌜ length (now message) ≤ mostOctets ⌝ }
-    ensures { λ r. ⌜ Begins (now (table .entry)) at (now (message .entry)) room (one Code.variable) (stateAt cursor (now (values .entry)) (now (packed .entry))) (now (values .exit)) (now (packed .exit)) r ⌝ }
-{
-    let item = read_item::variable(message, cursor.place);
-    whole(read_steps::kept(item, values, packed, room, cursor))
-}
-
-// A row of octets: a length, then each octet.
-fn begin_octets(
-    table: &[u8],
-    at: usize,
-    message: &[u8],
-    values: &mut [i64],
-    packed: &mut [u8],
-    room: usize,
-    cursor: Cursor,
-) -> Begun
-    requires { ⌜ Obeys (now table) × Starts (now table) at × (u16 (now table) (at + 2) ≡ 7) × (length (now message) ≤ mostOctets) ⌝ }
-    ensures { λ r. ⌜ Begins (now (table .entry)) at (now (message .entry)) room (items (now (table .entry)) at) (stateAt cursor (now (values .entry)) (now (packed .entry))) (now (values .exit)) (now (packed .exit)) r ⌝ }
-{
-    let most = Row::count_at(table, at);
-    let item = read_item::length(message, cursor.place, 0, most as u32);
-    let step = read_steps::kept(item, values, packed, room, cursor);
-    let Step::Past(next) = step else {
-        return whole(step);
-    };
-    let count = read_steps::count_of(item);
-    whole(read_steps::read_octets(count, message, values, packed, room, next))
 }
 
 // A counted run: a length, which leaves that many items of the row that it refers to.
@@ -213,8 +152,8 @@ pub fn begin(
 {
     let kind = Row::kind_at(table, at);
     match kind {
-        Row::NUMBER => begin_number(table, at, message, values, packed, room, cursor),
-        Row::VARIABLE => begin_variable(table, at, message, values, packed, room, cursor),
+        Row::NUMBER => whole(read_leaf::number(table, at, message, values, packed, room, cursor)),
+        Row::VARIABLE => whole(read_leaf::variable(message, values, packed, room, cursor)),
         Row::FIXED_RUN => {
             let count = Row::count_at(table, at);
             let row = Row::run_at(table, at);
@@ -223,6 +162,6 @@ pub fn begin(
         Row::COUNTED_RUN => begin_counted(table, at, message, values, packed, room, cursor),
         Row::RECORD => begin_record(table, at, message, values, packed, room, cursor),
         Row::CHOICE => begin_choice(table, at, message, values, packed, room, cursor),
-        _ => begin_octets(table, at, message, values, packed, room, cursor),
+        _ => whole(read_leaf::octets(table, at, message, values, packed, room, cursor)),
     }
 }

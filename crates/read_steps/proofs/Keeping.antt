@@ -15,12 +15,12 @@ use Rattle.item.proofs.CodeLaws.{decodeItem-sound}
 use Rattle.item.specs.declared.Item.{Item}
 use Rattle.item.specs.declared.Item.the-variants.{Value, Bad}
 use Rattle.values.specs.Values.{setValue}
-use Rattle.items.specs.Items.{Items, ask}
+use Rattle.items.specs.Items.{Items, stop, ask, one}
 use Rattle.read_steps.specs.declared.Cursor.{Cursor}
 use Rattle.read_steps.specs.declared.Step.{Step}
 use Rattle.read_steps.specs.declared.Step.the-variants.{Past, Refused}
 use Rattle.read_steps.specs.Reads.{State, stateAt, Reads, Continues, keptStep, keptIn, valueOf}
-use Rattle.read_steps.proofs.Flow.{continues-trans, continues-same, continues-item, refused-item}
+use Rattle.read_steps.proofs.Flow.{continues-trans, continues-same, continues-item, refused-item, continues-end}
 
 -- the item that stands here was kept, with this step and these slices
 pub record Keeping (c : Code) (message : List ℕ) (room : ℕ) (from : State) (values : List ℤ) (packed : List ℕ) (item : Item) (step : Step) : Type 0 where
@@ -61,3 +61,10 @@ module _ {message : List ℕ} {room : ℕ} {from : State} {values : List ℤ} {p
     -- it was kept, and comes to what its value calls for
     pub first-kept : {next : Cursor} → step ≡ Past next → Continues message room p from (k (valueOf item)) (stateAt next values packed)
     first-kept e = continues-trans (continues-same first) (continues-item c k item (q .answer) (sym (q .moved) ∙ e) (q .inValues) (q .inPacked))
+
+-- one item and no more
+pub reads-one : {c : Code} {message : List ℕ} {room : ℕ} {from : State} {values : List ℤ} {packed : List ℕ} {item : Item} (step : Step)
+    → Keeping c message room from values packed item step → Reads message room (one c) from values packed step
+unfolding one
+reads-one {c} (Past to) q = continues-end (first-kept c (λ v. stop) refl q refl)
+reads-one {c} (Refused refusal) q = first-refused c (λ v. stop) refl q refl

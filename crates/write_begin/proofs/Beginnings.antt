@@ -2,15 +2,15 @@
 -- Assumes nothing.
 use Prim.Native.Nat.{ℕ, _+_, _*_, _/_, _%_}
 use mathlib.Core.Bool.{Bool}
-use mathlib.Core.Path.{_≡_, refl}
+use mathlib.Core.Path.{_≡_}
 use mathlib.Core.Logic.{_≢_}
 use mathlib.Core.List.{List, _∷_}
 use native.Mathlib.Omega.{arith}
 use lib.Dec.{eqb}
 use lib.IntN.{ℤ, pos}
 use Rattle.answer.specs.declared.Refusal.{Refusal}
-use Rattle.item.specs.Code.{Code, number, natural}
-use Rattle.items.specs.Items.{Items, stop, one}
+use Rattle.item.specs.Code.{number, natural}
+use Rattle.items.specs.Items.{Items}
 use Rattle.encoding.specs.Rows.{presence}
 use Rattle.parts.proofs.Records.{presence-always, presence-optional}
 use Rattle.write_steps.specs.declared.Cursor.{Cursor}
@@ -31,13 +31,6 @@ pub begins-writes : (t : List ℕ) (o : ℕ) {list : List ℤ} {p : Items} {from
     → Writes list p from output step → Begins t o list p from output (wholeOf step)
 begins-writes t o (Past to) w = continues-done w
 begins-writes t o (Refused refusal) w = w
-
--- a row that asks for one item
-pub begins-one : (t : List ℕ) (o : ℕ) {c : Code} {list : List ℤ} {from : State} {output : List ℕ} {v : ℤ} (step : Step)
-    → Putting c list from output v step → Begins t o list (one c) from output (wholeOf step)
-unfolding one
-begins-one t o {c} (Past to) p = first-put c (λ v. stop) refl p refl
-begins-one t o {c} (Refused refusal) p = first-refused c (λ v. stop) refl p refl
 
 -- ── presence values ──
 

@@ -1,5 +1,5 @@
-// The items of a row that are its own: a number, a variable number, octets, the length of a counted run, the presence bits of
-// a record, the index of a choice. Each takes the next value of the list; a value that is missing is refused as a wrong one.
+// The beginning of a row: the items that are its own. All of them where it refers to no other row (write_leaf), else the length
+// of a counted run, the presence values of a record, the index of a choice; and what they leave to be written.
 use answer::Refusal;
 use row::Row;
 use write_steps::Cursor;
@@ -9,10 +9,8 @@ ghost use mathlib.Core.Path.{_≡_};
 ghost use Prim.Native.Nat.{_+_, _<_, _≤_};
 ghost use lib.ListN.{length};
 ghost use Rattle.bits.specs.Access.{mostOctets};
-ghost use Rattle.octets.specs.Numbers.{u16, u32, signed};
-ghost use Rattle.item.specs.Code.{Code};
+ghost use Rattle.octets.specs.Numbers.{u16, u32};
 ghost use Rattle.rules.specs.Rules.{Obeys, Starts};
-ghost use Rattle.items.specs.Items.{one};
 ghost use Rattle.encoding.specs.Rows.{items};
 ghost use Rattle.write_steps.specs.Writes.{listIn, stateAt};
 ghost use Rattle.write_begin.specs.Begins.{Begins, Marks, wholeOf};
@@ -35,74 +33,6 @@ fn whole(step: Step) -> Begun
         Step::Past(next) => Begun::Done(next),
         Step::Refused(refusal) => Begun::Refused(refusal),
     }
-}
-
-// A number row.
-fn begin_number(
-    table: &[u8],
-    at: usize,
-    values: &[i64],
-    packed: &[u8],
-    output: &mut [u8],
-    cursor: Cursor,
-) -> Begun
-    requires { ⌜ (at + 12 ≤ length (now table)) × (length (now output) ≤ mostOctets) ⌝ }
-    ensures { λ r. ⌜ Begins (now (table .entry)) at (listIn (now (values .entry)) (now (packed .entry))) (one (Code.number (signed (u32 (now (table .entry)) (at + 4))) (u32 (now (table .entry)) (at + 8)))) (stateAt cursor (now (output .entry))) (now (output .exit)) r ⌝ }
-{
-    let given = write_steps::next_value(values, packed, cursor.index);
-    let Given::Value(value, after) = given else {
-        return Begun::Refused(write_steps::missing(cursor.index));
-    };
-    let low = Row::low_at(table, at);
-    let span = Row::span_at(table, at);
-    let put = write_item::number(output, cursor.place, low, span as u32, value);
-    whole(write_steps::moved(put, cursor.index, after))
-}
-
-// A variable number row.
-fn begin_variable(
-    table: &[u8],
-    at: usize,
-    values: &[i64],
-    packed: &[u8],
-    output: &mut [u8],
-    cursor: Cursor,
-) -> Begun
-    requires { ⌜ length (now output) ≤ mostOctets ⌝ }
-    ensures { λ r. ⌜ Begins (now (table .entry)) at (listIn (now (values .entry)) (now (packed .entry))) (one Code.variable) (stateAt cursor (now (output .entry))) (now (output .exit)) r ⌝ }
-{
-    let given = write_steps::next_value(values, packed, cursor.index);
-    let Given::Value(value, after) = given else {
-        return Begun::Refused(write_steps::missing(cursor.index));
-    };
-    let put = write_item::variable(output, cursor.place, value);
-    whole(write_steps::moved(put, cursor.index, after))
-}
-
-// A row of octets: a length, then each octet.
-fn begin_octets(
-    table: &[u8],
-    at: usize,
-    values: &[i64],
-    packed: &[u8],
-    output: &mut [u8],
-    cursor: Cursor,
-) -> Begun
-    requires { ⌜ Obeys (now table) × Starts (now table) at × (u16 (now table) (at + 2) ≡ 7) × (length (now output) ≤ mostOctets) ⌝ }
-    ensures { λ r. ⌜ Begins (now (table .entry)) at (listIn (now (values .entry)) (now (packed .entry))) (items (now (table .entry)) at) (stateAt cursor (now (output .entry))) (now (output .exit)) r ⌝ }
-{
-    let given = write_steps::next_value(values, packed, cursor.index);
-    let Given::Value(value, after) = given else {
-        return Begun::Refused(write_steps::missing(cursor.index));
-    };
-    let most = Row::count_at(table, at);
-    let put = write_item::length(output, cursor.place, 0, most as u32, value);
-    let step = write_steps::moved(put, cursor.index, after);
-    let Step::Past(next) = step else {
-        return whole(step);
-    };
-    let count = item::count_of(value);
-    whole(write_steps::write_octets(count, values, packed, output, next))
 }
 
 // A counted run: a length, which leaves that many items of the row that it refers to.
@@ -230,8 +160,8 @@ pub fn begin(
 {
     let kind = Row::kind_at(table, at);
     match kind {
-        Row::NUMBER => begin_number(table, at, values, packed, output, cursor),
-        Row::VARIABLE => begin_variable(table, at, values, packed, output, cursor),
+        Row::NUMBER => whole(write_leaf::number(table, at, values, packed, output, cursor)),
+        Row::VARIABLE => whole(write_leaf::variable(values, packed, output, cursor)),
         Row::FIXED_RUN => {
             let count = Row::count_at(table, at);
             let row = Row::run_at(table, at);
@@ -240,6 +170,6 @@ pub fn begin(
         Row::COUNTED_RUN => begin_counted(table, at, values, packed, output, cursor),
         Row::RECORD => begin_record(table, at, values, packed, output, cursor),
         Row::CHOICE => begin_choice(table, at, values, packed, output, cursor),
-        _ => begin_octets(table, at, values, packed, output, cursor),
+        _ => whole(write_leaf::octets(table, at, values, packed, output, cursor)),
     }
 }

@@ -11,14 +11,14 @@ use Rattle.item.specs.Code.{Code, allows}
 use Rattle.item.specs.Answers.{putAt, bitsAfter}
 use Rattle.item.specs.declared.Put.{Put}
 use Rattle.item.specs.declared.Put.the-variants.{Unfit}
-use Rattle.items.specs.Items.{Items, ask}
+use Rattle.items.specs.Items.{Items, stop, ask, one}
 use Rattle.write_steps.specs.declared.Cursor.{Cursor}
 use Rattle.write_steps.specs.declared.Given.{Given}
 use Rattle.write_steps.specs.declared.Given.the-variants.{Value, Missing}
 use Rattle.write_steps.specs.declared.Step.{Step}
 use Rattle.write_steps.specs.declared.Step.the-variants.{Past, Refused}
 use Rattle.write_steps.specs.Writes.{State, stateAt, Writes, Continues, Gives, missingAt, movedStep}
-use Rattle.write_steps.proofs.Flow.{continues-trans, continues-same, continues-item, refused-item, missing-item}
+use Rattle.write_steps.proofs.Flow.{continues-trans, continues-same, continues-item, refused-item, missing-item, continues-end}
 
 -- the value v that the list gives next was put, with this step and this output
 pub record Putting (c : Code) (list : List ℤ) (from : State) (output : List ℕ) (v : ℤ) (step : Step) : Type 0 where
@@ -70,3 +70,9 @@ module _ {list : List ℤ} {p : Items} {from : State} {output : List ℕ} (c : C
   -- it was put, and comes to what it calls for
   pub first-put : {v : ℤ} {step : Step} {to : Cursor} → Putting c list from output v step → step ≡ Past to → Continues list p from (k v) (stateAt to output)
   first-put q e = continues-trans (continues-same first) (continues-item c k (q .given) (q .answer) (sym (q .moved) ∙ e) (q .bits))
+
+-- one item and no more
+pub writes-one : {c : Code} {list : List ℤ} {from : State} {output : List ℕ} {v : ℤ} (step : Step) → Putting c list from output v step → Writes list (one c) from output step
+unfolding one
+writes-one {c} (Past to) p = continues-end (first-put c (λ v. stop) refl p refl)
+writes-one {c} (Refused refusal) p = first-refused c (λ v. stop) refl p refl

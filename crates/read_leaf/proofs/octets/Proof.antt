@@ -1,4 +1,4 @@
--- `read_begin::begin_octets` meets its contract. A length, read and kept; then the octets.
+-- `read_leaf::octets` meets its contract. A length, read and kept; then the octets.
 -- Assumes nothing.
 use Prim.Native.Nat.{_+_}
 use mathlib.Core.Path.{_≡_, ap}
@@ -13,9 +13,8 @@ use Rattle.encoding.specs.Rows.{items}
 use Rattle.encoding.proofs.RowItems.{items-octets}
 use Rattle.read_steps.specs.Reads.{stateAt}
 use Rattle.read_steps.proofs.Keeping.{Keeping, keeping, first-refused, first-kept}
-use Rattle.read_begin.proofs.Beginnings.{begins-reads}
-use Rattle.read_begin.proofs.begin_octets.Statement.{statement}
-use Rattle.read_begin.proofs.begin_octets.Tie as tie
+use Rattle.read_leaf.proofs.octets.Statement.{statement}
+use Rattle.read_leaf.proofs.octets.Tie as tie
 
 -- what the row asks for
 row-items : (s : tie.Start) → let t = now (s .args .table) in let at = s .args .at in
@@ -36,22 +35,20 @@ length-kept c = keeping _ (ap (lengthWithin 0) (c .before .before .before .befor
 
 returns : tie.Need-returns
 returns c =
-    let kept = c .before .before .before .before .before .before in
-    let told = c .before .enum-told .given .1 in
-    rw (c .whole .ensures, told) (first-refused _ _ (row-items (kept .before .before .before .before .before .before .before .before)) (length-kept kept) told)
+    let kept = c .before .before .before .before .before in
+    let told = c .enum-told .given .1 in
+    rw told (first-refused _ _ (row-items (kept .before .before .before .before .before .before .before .before)) (length-kept kept) told)
 
 returns-2 : tie.Need-returns-2
 returns-2 c =
-    let octets = c .before .before .before .before .read-octets in
-    let count = c .before .before .before .before .before .before .before in
+    let octets = c .before .before .before .read-octets in
+    let count = c .before .before .before .before .before .before in
     let kept = count .before .before .before .before .before .before .before in
     let s = kept .before .before .before .before .before .before .before .before in
-    rw (c .whole2 .ensures)
-    (begins-reads (now (s .args .table)) (s .args .at) (octets .result)
-    (first-kept _ _ (row-items s) (length-kept kept) (count .before .before .step .given .1) .complete _ _ _ (rw (count .count-of .ensures) at (octets .ensures))))
+    first-kept _ _ (row-items s) (length-kept kept) (count .before .before .step .given .1) .complete _ _ _ (rw (count .count-of .ensures) at (octets .ensures))
 
-pub begin-octets-spec : {M : Type 1} → statement M
-begin-octets-spec =
+pub octets-spec : {M : Type 1} → statement M
+octets-spec =
     tie.close
     (tie.spec
     count-at-requires
@@ -60,11 +57,9 @@ begin-octets-spec =
     (λ c κs. search needs)
     (λ c. search needs)
     (λ c. search needs)
-    (λ c κs. search needs)
     (λ c. search needs)
     (λ c. search needs)
     returns
-    (λ c κs. search needs)
     (λ c κs. search needs)
     (λ c κs. search needs)
     (λ c. search needs)

@@ -1,4 +1,4 @@
--- `write_begin::begin_octets` meets its contract. A length, put by its code, and then that many octets.
+-- `write_leaf::octets` meets its contract. A length, put by its code, and then that many octets.
 -- Assumes nothing.
 use Prim.Native.Nat.{_+_}
 use mathlib.Core.Path.{_≡_, ap}
@@ -17,9 +17,8 @@ use Rattle.encoding.proofs.RowItems.{items-octets}
 use Rattle.item.proofs.Naturals.{held}
 use Rattle.write_steps.specs.Writes.{listIn, stateAt}
 use Rattle.write_steps.proofs.Putting.{Putting, putting, first-missing, first-refused, first-put}
-use Rattle.write_begin.proofs.Beginnings.{begins-writes}
-use Rattle.write_begin.proofs.begin_octets.Statement.{statement}
-use Rattle.write_begin.proofs.begin_octets.Tie as tie
+use Rattle.write_leaf.proofs.octets.Statement.{statement}
+use Rattle.write_leaf.proofs.octets.Tie as tie
 
 -- what the row asks for
 row-items : (s : tie.Start) → let t = now (s .args .table) in let at = s .args .at in
@@ -58,23 +57,21 @@ value-put c =
 
 returns-2 : tie.Need-returns-2
 returns-2 c =
-    let moved = c .before .before .before in
+    let moved = c .before .before in
     let s = moved .before .before .before .before .before .before .before .before .before .before .before .before .before in
-    rw (c .whole .ensures, c .before .enum-told2 .given .1) (first-refused _ _ (row-items s) (value-put moved) (c .before .enum-told2 .given .1))
+    rw (c .enum-told2 .given .1) (first-refused _ _ (row-items s) (value-put moved) (c .enum-told2 .given .1))
 
 returns-3 : tie.Need-returns-3
 returns-3 c =
-    let octets = c .before .before .before .write-octets in
-    let count = c .before .before .before .before .before in
+    let octets = c .before .before .write-octets in
+    let count = c .before .before .before .before in
     let moved = count .before .before .before .before in
     let told = moved .before .before .before .before .before .before in
     let s = told .before .before .before .before .before .before .before in
-    rw (c .whole2 .ensures)
-    (begins-writes (now (s .args .table)) (s .args .at) (octets .result)
-    (first-put _ _ (row-items s) (value-put moved) (count .before .before .step .given .1) .complete _ _ (rw (rw (value-held told) at (count .count-of .ensures)) at (octets .ensures))))
+    first-put _ _ (row-items s) (value-put moved) (count .before .before .step .given .1) .complete _ _ (rw (rw (value-held told) at (count .count-of .ensures)) at (octets .ensures))
 
-pub begin-octets-spec : {M : Type 1} → statement M
-begin-octets-spec =
+pub octets-spec : {M : Type 1} → statement M
+octets-spec =
     tie.close
     (tie.spec
     (λ c κs. search needs)
@@ -88,10 +85,8 @@ begin-octets-spec =
     (λ c κs. search needs)
     (λ c. search needs)
     (λ c. search needs)
-    (λ c κs. search needs)
     (λ c. search needs)
     returns-2
-    (λ c κs. search needs)
     (λ c κs. search needs)
     (λ c κs. search needs)
     (λ c. search needs)

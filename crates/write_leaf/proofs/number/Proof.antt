@@ -1,4 +1,4 @@
--- `write_begin::begin_number` meets its contract. One value, put by its code, whose low and span the row holds.
+-- `write_leaf::number` meets its contract. One value, put by its code, whose low and span the row holds.
 -- Assumes nothing.
 use Prim.Native.Nat.{_+_}
 use mathlib.Core.Path.{_≡_, refl, ap₂, _∙_}
@@ -11,10 +11,9 @@ use Rattle.octets.specs.Numbers.{u32, signed}
 use Rattle.item.specs.Code.{number}
 use Rattle.items.specs.Items.{stop, one}
 use Rattle.item.proofs.Naturals.{held}
-use Rattle.write_steps.proofs.Putting.{putting, first-missing}
-use Rattle.write_begin.proofs.Beginnings.{begins-one}
-use Rattle.write_begin.proofs.begin_number.Statement.{statement}
-use Rattle.write_begin.proofs.begin_number.Tie as tie
+use Rattle.write_steps.proofs.Putting.{putting, first-missing, writes-one}
+use Rattle.write_leaf.proofs.number.Statement.{statement}
+use Rattle.write_leaf.proofs.number.Tie as tie
 
 returns : tie.Need-returns
 unfolding one
@@ -33,21 +32,18 @@ number-requires c κs = (search needs, rw (low-held (c .before .before)) (c .bef
 
 returns-2 : tie.Need-returns-2
 returns-2 c =
-    let moved = c .before .moved in
-    let put = c .before .before .before .before .number in
-    let span = c .before .before .before .before .before .before in
+    let put = c .before .before .before .number in
+    let span = c .before .before .before .before .before in
     let low = span .before in
     let told = low .before in
     let value = told .before .given in
     let next = told .before .before .before .next-value in
-    let a = told .before .before .before .before .before .before .before .args in
     let code = ap₂ number (low-held low ∙ low .low-at .ensures .0) (span .span-at .ensures .0) in
-    rw (c .whole .ensures)
-    (begins-one (now (a .table)) (a .at) (moved .result)
-    (putting _ (next .result) (put .result) _ _ code (next .ensures) (value .given .1) (held (value .given .0 .0) (told .known-told .given .0 .1)) (put .ensures) (moved .ensures)))
+    writes-one (c .moved .result)
+    (putting _ (next .result) (put .result) _ _ code (next .ensures) (value .given .1) (held (value .given .0 .0) (told .known-told .given .0 .1)) (put .ensures) (c .moved .ensures))
 
-pub begin-number-spec : {M : Type 1} → statement M
-begin-number-spec =
+pub number-spec : {M : Type 1} → statement M
+number-spec =
     tie.close
     (tie.spec
     (λ c κs. search needs)
@@ -59,7 +55,6 @@ begin-number-spec =
     (λ c κs. search needs)
     (λ c. search needs)
     number-requires
-    (λ c κs. search needs)
     (λ c κs. search needs)
     (λ c. search needs)
     returns-2)

@@ -1,0 +1,72 @@
+// The rows that refer to no other: a number, a variable number, octets. Each item is read, and kept where there is room for its
+// value.
+use read_steps::Cursor;
+use read_steps::Step;
+use row::Row;
+ghost use mathlib.Core.Path.{_≡_};
+ghost use Prim.Native.Nat.{_+_, _≤_};
+ghost use lib.ListN.{length};
+ghost use Rattle.bits.specs.Access.{mostOctets};
+ghost use Rattle.octets.specs.Numbers.{u16, u32, signed};
+ghost use Rattle.item.specs.Code.{Code};
+ghost use Rattle.rules.specs.Rules.{Obeys, Starts};
+ghost use Rattle.items.specs.Items.{one};
+ghost use Rattle.encoding.specs.Rows.{items};
+ghost use Rattle.read_steps.specs.Reads.{Reads, stateAt};
+
+// A number row.
+pub fn number(
+    table: &[u8],
+    at: usize,
+    message: &[u8],
+    values: &mut [i64],
+    packed: &mut [u8],
+    room: usize,
+    cursor: Cursor,
+) -> Step
+    requires { ⌜ (at + 12 ≤ length (now table)) × (length (now message) ≤ mostOctets) ⌝ }
+    ensures { λ r. ⌜ Reads (now (message .entry)) room (one (Code.number (signed (u32 (now (table .entry)) (at + 4))) (u32 (now (table .entry)) (at + 8)))) (stateAt cursor (now (values .entry)) (now (packed .entry))) (now (values .exit)) (now (packed .exit)) r ⌝ }
+{
+    let low = Row::low_at(table, at);
+    let span = Row::span_at(table, at);
+    let item = read_item::number(message, cursor.place, low, span as u32);
+    read_steps::kept(item, values, packed, room, cursor)
+}
+
+// A variable number row.
+pub fn variable(
+    message: &[u8],
+    values: &mut [i64],
+    packed: &mut [u8],
+    room: usize,
+    cursor: Cursor,
+) -> Step
+    requires { ⌜ length (now message) ≤ mostOctets ⌝ }
+    ensures { λ r. ⌜ Reads (now (message .entry)) room (one Code.variable) (stateAt cursor (now (values .entry)) (now (packed .entry))) (now (values .exit)) (now (packed .exit)) r ⌝ }
+{
+    let item = read_item::variable(message, cursor.place);
+    read_steps::kept(item, values, packed, room, cursor)
+}
+
+// A row of octets: a length, then each octet.
+pub fn octets(
+    table: &[u8],
+    at: usize,
+    message: &[u8],
+    values: &mut [i64],
+    packed: &mut [u8],
+    room: usize,
+    cursor: Cursor,
+) -> Step
+    requires { ⌜ Obeys (now table) × Starts (now table) at × (u16 (now table) (at + 2) ≡ 7) × (length (now message) ≤ mostOctets) ⌝ }
+    ensures { λ r. ⌜ Reads (now (message .entry)) room (items (now (table .entry)) at) (stateAt cursor (now (values .entry)) (now (packed .entry))) (now (values .exit)) (now (packed .exit)) r ⌝ }
+{
+    let most = Row::count_at(table, at);
+    let item = read_item::length(message, cursor.place, 0, most as u32);
+    let step = read_steps::kept(item, values, packed, room, cursor);
+    let Step::Past(next) = step else {
+        return step;
+    };
+    let count = read_steps::count_of(item);
+    read_steps::read_octets(count, message, values, packed, room, next)
+}
