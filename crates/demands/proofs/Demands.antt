@@ -8,7 +8,7 @@ use Rattle.item.proofs.Ranges.{item-ranges}
 use Rattle.item.proofs.Widths.{item-widths}
 use Rattle.rules.proofs.Depths.{depths}
 use Rattle.encoding.proofs.Demand2.{demand2}
-use Rattle.items.proofs.Filled.{filled-up}
+use Rattle.items.proofs.Filled.{filled-up, zeros-after}
 use Rattle.encoding.proofs.Demand3.{demand3}
 use Rattle.encoding.proofs.Demand3Octets.{demand3-octets}
 use Rattle.builtin.proofs.Tables.{built-in}
@@ -31,6 +31,7 @@ demands = record {
   answers = inverse;
   numbers = six-numbers;
   filled = filled-up;
+  zeros = zeros-after;
   depths = depths;
   ranges = item-ranges;
   width = smallest-width;

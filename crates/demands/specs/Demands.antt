@@ -18,7 +18,7 @@ use Rattle.item.specs.Ranges.{ItemRanges}
 use Rattle.item.specs.Widths.{ItemWidths}
 use Rattle.rules.specs.Depths.{Depths}
 use Rattle.encoding.specs.Demand2.{Demand2}
-use Rattle.items.specs.Filled.{FilledUp}
+use Rattle.items.specs.Filled.{FilledUp, ZerosAfter}
 use Rattle.encoding.specs.Demand3.{AreOctets, Demand3}
 use Rattle.encoding.specs.Demand3Octets.{Demand3Octets}
 use Rattle.builtin.specs.Built.{BuiltIn}
@@ -49,6 +49,7 @@ pub record Demands : Type 1 where
   pub numbers : SixNumbers
   -- the answer followed by zeros
   pub filled : FilledUp
+  pub zeros : ZerosAfter
   -- what a row's depth is
   pub depths : (t : List ℕ) → Depths t
   -- the bits of each kind of item: which values, how many bits, and that one can be told from the other

@@ -1,7 +1,8 @@
 -- Demand 3, sentence by sentence, over every table, message, list and slice length. The proof is proofs/Demand3.antt.
--- It speaks of document 01's rules (Obeys, in table's specs/Rules.antt), of which lists a table allows (Allows, specs/Items.antt
--- and Rows.antt), of their encoding (specs/Encoding.antt), and of what the contracts of check, read and write name (checked and
--- verdict in table's specs/Verdict.antt; readCall, writeCall, valuesAfter and outputAfter in specs/Calls.antt).
+-- It speaks of document 01's rules (Obeys, in rules' specs/Rules.antt), of which lists a table allows (Allows, in items'
+-- specs/Items.antt; asks, in specs/Rows.antt), of their encoding (items' specs/Encoding.antt), and of what the contracts of check,
+-- read and write name (checked and verdict in table's specs/Verdict.antt; readCall and writeCall in specs/Calls.antt; valuesAfter
+-- and outputAfter in items' specs/Slices.antt).
 use Prim.Native.Nat.{ℕ, _≤_, _<_}
 use mathlib.Core.Path.{_≡_}
 use mathlib.Core.Logic.{_↔_}

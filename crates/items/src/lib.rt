@@ -1,2 +1,2 @@
-// Items in order: which lists they allow, their bits, and what reading and writing them comes to. Definitions and theorems
-// alone; no table is known here.
+// The crate holds definitions and their laws: items in order, which lists they allow, their bits, and what reading and writing them
+// comes to. No table is known here, and nothing runs.

@@ -1,5 +1,5 @@
--- What the readers of rows are proved against: the walk of encoding's specs/Walk.antt, as the code answers it, with what the
--- two lent slices then hold.
+-- What the steps and the readers of rows are proved against: the walk of items' specs/Walk.antt, as the code answers it, with what
+-- the two lent slices then hold.
 use Prim.Native.Nat.{ℕ, _+_, _-_}
 use mathlib.Core.Bool.{cond}
 use mathlib.Core.Path.{_≡_}

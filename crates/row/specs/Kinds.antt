@@ -1,5 +1,5 @@
 -- What document 01's table of rows says by the number of a kind. The contracts of the row type cite it. A reader
--- need not believe that it says the same as Rows.antt and Rules.antt: what the check passes is Demand3's `checks`.
+-- need not believe that it says the same as Rows.antt and rules' specs/Rules.antt: what the check passes is Demand3's `checks`.
 use Prim.Native.Nat.{ℕ, _+_, _*_}
 use mathlib.Core.Bool.{Bool, cond}
 use mathlib.Core.List.{List}

@@ -1,5 +1,5 @@
 -- Recursion over the offsets of a table: what a row means, from what earlier rows mean. It computes. What it
--- comes to is stated by Depths (Depths.antt) and by Demand2's `row` (encoding's specs/Demand2.antt).
+-- comes to is stated by Depths (rules' specs/Depths.antt) and by Demand2's `row` (encoding's specs/Demand2.antt).
 use Prim.Native.Nat.{ℕ, zero, suc}
 use mathlib.Core.Bool.{cond}
 use lib.Dec.{ltb}

@@ -1,4 +1,4 @@
--- The tables of Kinds.antt say the same as the rows of Rows.antt and the rules of Rules.antt.
+-- The tables by kind of the crate row say the same as its rows, and as the rules of Rules.antt.
 -- Assumes nothing.
 use Prim.Native.Nat.{ℕ, _+_, _*_}
 use mathlib.Core.Bool.{true, _&&_, false≢true}

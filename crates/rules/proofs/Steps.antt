@@ -1,4 +1,4 @@
--- The steps of the check make up the row's test of Verdict.antt: the head, the flags, the references, a branch, the depth.
+-- The steps of the check make up the row's test of Tests.antt: the head, the flags, the references, a branch, the depth.
 -- Assumes nothing.
 use Prim.Native.Nat.{ℕ, zero, suc, _+_, _*_, _≤_, _<_, max}
 use mathlib.Core.Bool.{Bool, true, false, cond, not, _&&_, _||_, false≢true, and-eq-true-iff}
@@ -98,7 +98,7 @@ stepsTest t o k m d =
     && (leb (leastBelow k) (deepest (depthIn d) (referencesOf t o k m)) && leb (suc (deepest (depthIn d) (referencesOf t o k m))) 32)))
 
 module _ (t : List ℕ) (o : ℕ) (d : List ℕ) where
-  -- the tests of a row as one of a kind, as Verdict.antt has them
+  -- the tests of a row as one of a kind, as Tests.antt has them
   rowTestOf : ℕ → Bool
   rowTestOf k =
       leb (o + 4) (length t) && (leb (o + u16 t o) (length t)

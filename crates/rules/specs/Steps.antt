@@ -1,4 +1,4 @@
--- What the steps of the check answer, from the definitions of Kinds.antt, Rules.antt and Verdict.antt.
+-- What the steps of a row's test answer, from the definitions of row's specs/Kinds.antt, of Rules.antt and of Tests.antt.
 use Prim.Native.Nat.{ℕ, _+_, max}
 use mathlib.Core.Bool.{Bool, cond, _&&_}
 use mathlib.Core.List.{List, [], _∷_}

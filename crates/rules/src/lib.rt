@@ -1,4 +1,4 @@
-// The rules of a table for one row, tested against the rows before it. Each step reads its part of the row once.
+// The rules of a table (specs/Rules.antt) for one row, tested against the rows before it. Each step reads its part of the row once.
 use row::Row;
 ghost use mathlib.Core.Path.{_≡_};
 ghost use mathlib.Core.Bool.{_&&_};

@@ -1,4 +1,4 @@
--- The one pass of Verdict.antt decides the rules of Rules.antt: it passes a table exactly when the table obeys them.
+-- The one pass of Verdict.antt decides the rules (Obeys): it passes a table exactly when the table obeys them.
 -- Assumes nothing.
 use Prim.Native.Nat.{ℕ, zero, suc, _+_, _-_, _≤_, _<_, max}
 use mathlib.Core.Bool.{Bool, true, false, cond, not, _&&_, false≢true, and-eq-true-iff}

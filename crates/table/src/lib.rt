@@ -1,4 +1,4 @@
-// Tables: the row type, the check of a table against document 01's rules ("Row layout"), and what a table that passed it tells.
+// Tables: the check against document 01's rules ("Row layout"), and what a table that passed it tells.
 pub mod passed;
 
 use answer::Answer;

@@ -1,5 +1,5 @@
--- What the writers of rows are proved against: the spelling of encoding's specs/Spell.antt, as the code answers it, with what
--- the output then holds.
+-- What the steps and the writers of rows are proved against: the spelling of items' specs/Spell.antt, as the code answers it, with
+-- what the output then holds.
 use Prim.Native.Nat.{ℕ, suc, _+_, _-_, _*_, _≤_, _<_}
 use mathlib.Core.Path.{_≡_}
 use mathlib.Core.List.{List, _++_}
