@@ -58,7 +58,7 @@ abbrev pub refusalAt : ℕ → ℕ → Refusal
 refusalAt number place = record { number = number; place = place }
 
 -- the case for each outcome: a refusal's number and place; the values, bits and octets counted. Every promise of an answer uses
--- these two
+-- `accepted`, and `refused` or `Refused` of a refusal that `refusalAt` made
 abbrev pub refused : ℕ → ℕ → Answer
 refused number place = Refused (refusalAt number place)
 

@@ -10,7 +10,7 @@ use native.Mathlib.Nat.{pow-succ', add-zero, zero-add, add-suc, suc-add, suc-sub
 use lib.Pow.{pow-pos, pow-add, pow-mono}
 use lib.Dec.{leb, ltb, eqb}
 use lib.ListN.{length, getD, take, drop, length-append, length-take, length-drop, take-append-drop, List·getD-append}
-use lib.Seq.{take-at, drop-at, length-take-le, take-suc, getD-append-add}
+use lib.Seq.{take-at, drop-at, length-take-le, getD-append-add}
 use borrow.Author.Tests.{leb-true, leb-false, ltb-true, ltb-false, le-leb, lt-leb}
 use Rattle.bits.specs.Bits.{weight, numberOf, bitsOf, widthFrom, width, unpack, pack}
 
@@ -51,10 +51,6 @@ bitsOf-numberOf (false ∷ b) =
     let e : 0 + numberOf b - 0 ≡ numberOf b = omega arith in
     rw (lt-leb (2 ^ length b) (0 + numberOf b) (omega (arith, numberOf-lt b)), e) (ap (false ∷_) (bitsOf-numberOf b))
 
--- two numbers with the same k bits are equal
-pub bitsOf-injective : (k n m : ℕ) → n < 2 ^ k → m < 2 ^ k → bitsOf k n ≡ bitsOf k m → n ≡ m
-bitsOf-injective k n m hn hm e = sym (numberOf-bitsOf k n hn) ∙ ap numberOf e ∙ numberOf-bitsOf k m hm
-
 -- two lists of as many bits that spell the same number are equal
 pub numberOf-injective : (b c : List Bool) → length b ≡ length c → numberOf b ≡ numberOf c → b ≡ c
 numberOf-injective b c l e = sym (bitsOf-numberOf b) ∙ ap₂ bitsOf l e ∙ bitsOf-numberOf c
@@ -78,10 +74,6 @@ last-bit : (n : ℕ) (x : Bool) → n * 2 ^ length (x ∷ []) + numberOf (x ∷ 
 unfolding numberOf
 last-bit n true = omega arith
 last-bit n false = omega arith
-
--- one bit more
-pub numberOf-snoc : (k : ℕ) (b : List Bool) → k < length b → numberOf (take (suc k) b) ≡ 2 * numberOf (take k b) + cond (getD b k false) 1 0
-numberOf-snoc k b h = rw (take-suc b k false h, numberOf-append) (last-bit (numberOf (take k b)) (getD b k false))
 
 -- ---- the width of a number
 
@@ -257,9 +249,3 @@ parity : (x : ℕ) → x < 2 → cond (eqb x 1) 1 0 ≡ x
 parity zero h = refl
 parity (suc zero) h = refl
 parity (suc (suc x)) h = omega arith
-
--- the same as a number
-pub bit-value : (s : List ℕ) (i : ℕ) → ((j : ℕ) → getD s j 0 < 256) → i < 8 * length s
-    → cond (getD (unpack s) i false) 1 0 ≡ getD s (i / 8) 0 / 2 ^ (7 - i % 8) % 2
-unfolding odd
-bit-value s i h l = rw (bit-at s i h l) (parity (getD s (i / 8) 0 / 2 ^ (7 - i % 8) % 2) (omega arith))

@@ -1,7 +1,7 @@
 -- Known extension elements (document 01, "LM, SAM and SRM"): the IDs known at each home, and what is answered for an ID and a
 -- home number. A reader believes this file; nothing in it mentions the constant table or its search.
 use Prim.Native.Nat.{ℕ, zero, suc}
-use mathlib.Core.Bool.{Bool, true, false, cond, _||_}
+use mathlib.Core.Bool.{Bool, false, cond, _||_}
 use mathlib.Core.List.{List, [], _∷_, _++_}
 use lib.Dec.{eqb, ltb}
 use Rattle.elements.specs.declared.Home.{Home}

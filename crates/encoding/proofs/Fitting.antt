@@ -1,15 +1,16 @@
 -- Every value that a table of octets allows fits 64 bits.
 -- Assumes nothing.
-use Prim.Native.Nat.{ℕ, zero, suc, _+_, _≤_, _<_, _^_, min}
+use Prim.Native.Nat.{ℕ, _+_, _≤_, _<_, _^_, min}
 use mathlib.Core.Bool.{Bool, true, false, cond, and-eq-true-iff}
 use mathlib.Core.Path.{_≡_}
 use mathlib.Core.List.{List, [], _∷_, map}
 use native.Mathlib.Omega.{arith}
 use lib.Dec.{leb, eqb}
 use lib.IntN.{ℤ, pos, negsuc, _+ℤ_, _-ℤ_}
-use lib.ListN.{length, getD, length-map}
+use lib.ListN.{length, length-map}
 use lib.Signed.{mag}
 use borrow.Author.Tests.{leb-true}
+use Rattle.item.proofs.CodeLaws.{true-lt}
 use Rattle.octets.specs.Numbers.{u16, u32, u16s, signed, there}
 use Rattle.octets.proofs.Numbers.{u16-lt, u32-lt, length-u16s, mag-signed}
 use Rattle.item.specs.Code.{Code, number, variable, lengthWithin, index, lowOf, allowsOffset, ofNatural, allows}
@@ -45,14 +46,8 @@ length-fits least most =
     offsets-fit (lengthWithin least most) (omega arith)
     (λ n a. omega (arith, leb-true n (min most 16383) (and-eq-true-iff (leb least n) (leb n (min most 16383)) .0 a .1)))
 
--- an index below the count of branches
-branch-below : (bs : List Bool) (n : ℕ) → getD bs n false ≡ true → n < length bs
-branch-below [] n e = let z : _≡_ {A = ℕ} 0 1 = cc in absurd (omega arith)
-branch-below (b ∷ bs) zero e = omega arith
-branch-below (b ∷ bs) (suc n) e = omega (arith, branch-below bs n e)
-
 index-fits : (bs : List Bool) → length bs < 4294967296 → Fits (index bs)
-index-fits bs h = offsets-fit (index bs) (omega arith) (λ n a. omega (arith, branch-below bs n a))
+index-fits bs h = offsets-fit (index bs) (omega arith) (λ n a. omega (arith, true-lt bs n a))
 
 module _ (t : List ℕ) (octets : AreOctets t) where
   branches-few : (o : ℕ) → length (map there (u16s t (o + 6) 2 (u16 t (o + 4)))) < 4294967296

@@ -1,22 +1,20 @@
 -- What each kind of row asks for, from the row at its offset; and the steps of its loops.
 -- Assumes nothing.
-use Prim.Native.Nat.{ℕ, zero, suc, _+_, _-_, _<_}
+use Prim.Native.Nat.{ℕ, zero, suc, _-_, _<_}
 use mathlib.Core.Bool.{Bool, true, false, cond, false≢true}
 use mathlib.Core.Path.{_≡_, refl, ap, ap₂, _∙_, subst, fun-ext}
-use mathlib.Core.List.{List, [], _∷_, _++_, map, append-assoc}
+use mathlib.Core.List.{List, [], _∷_, map}
 use lib.IntN.{ℤ, pos}
 use lib.ListN.{getD}
 use Rattle.octets.specs.Numbers.{there}
-use Rattle.bits.specs.Bits.{bitsOf, width}
-use Rattle.item.specs.Code.{number, variable, lengthWithin, index, natural, got, decodeItem}
-use Rattle.item.proofs.CodeLaws.{decodeItem-complete}
+use Rattle.item.specs.Code.{number, variable, lengthWithin, index, natural}
 use Rattle.row.specs.Offsets.{earlier}
 use Rattle.row.specs.Rows.{Row, Number, Variable, FixedRun, CountedRun, Record, Choice, Octets, rowAt}
 use Rattle.rules.specs.Rules.{All, Earlier, branches}
 use Rattle.row.proofs.Offsets.{earlier-is, byOffset-is}
 use Rattle.items.specs.Items.{Items, stop, ask, _then_, one, times}
 use Rattle.encoding.specs.Rows.{presence, fields, rowItems, items}
-use Rattle.items.specs.Walk.{Walk, walked, blocked, walk, after, next}
+use Rattle.items.specs.Walk.{walk, next}
 use Rattle.items.proofs.Walks.{walk-then}
 
 -- the equation by which a reader goes from row to row
@@ -77,11 +75,6 @@ branch-back {t} {o} (r ∷ rs) (suc i) h e = branch-back rs i (go (there r) h) e
     go true k = k .1
     go false k = k
 
--- the loop over a run
-pub walk-times : (n : ℕ) (p : Items) (b : List Bool) (room at : ℕ) → walk (times (suc n) p) b room at ≡ next room (walk p b room at) (walk (times n p) b)
-unfolding times
-walk-times n p b room at = walk-then p (times n p) b room at
-
 -- the reader of a record's fields
 module _ (g : ℕ → Items) (r : ℕ) (rs : List ℕ) (ps : List Bool) (b : List Bool) (room at : ℕ) where
   pub walk-present : walk (fields g (r ∷ rs) (true ∷ ps)) b room at ≡ next room (walk (g r) b room at) (walk (fields g rs ps) b)
@@ -91,13 +84,3 @@ module _ (g : ℕ → Items) (r : ℕ) (rs : List ℕ) (ps : List Bool) (b : Lis
   pub walk-absent : walk (fields g (r ∷ rs) (false ∷ ps)) b room at ≡ walk (fields g rs ps) b room at
   unfolding fields
   walk-absent = refl
-
--- a presence bit
-pub dec-bit : (x : Bool) (r : List Bool) → decodeItem (number (pos 0) 1) (x ∷ r) ≡ got (pos (cond x 1 0)) r
-unfolding width bitsOf
-dec-bit true r = decodeItem-complete (number (pos 0) 1) (pos 1) r refl
-dec-bit false r = decodeItem-complete (number (pos 0) 1) (pos 0) r refl
-
-pub after-after : (us vs : List ℤ) (x : Walk) → after us (after vs x) ≡ after (us ++ vs) x
-after-after us vs (walked ws at) = rw append-assoc
-after-after us vs (blocked refusal) = refl

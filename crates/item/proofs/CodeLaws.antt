@@ -164,11 +164,11 @@ lengthOnes-of n h = go (ltb n 128) refl
     go true p = let x = ltb-true n 128 p in record { small = omega arith; below = omega arith; above = omega arith }
     go false p = let x = ltb-false n 128 p in record { small = omega arith; below = omega arith; above = omega arith }
 
-and-inv : (a b : Bool) → a && b ≡ true → (a ≡ true) × (b ≡ true)
+pub and-inv : (a b : Bool) → a && b ≡ true → (a ≡ true) × (b ≡ true)
 and-inv true b h = (refl, h)
 and-inv false b h = absurd (false≢true h)
 
-true-lt : (bs : List Bool) (n : ℕ) → getD bs n false ≡ true → n < length bs
+pub true-lt : (bs : List Bool) (n : ℕ) → getD bs n false ≡ true → n < length bs
 true-lt [] n e = absurd (false≢true e)
 true-lt (b ∷ bs) zero e = omega arith
 true-lt (b ∷ bs) (suc n) e = omega (arith, true-lt bs n e)

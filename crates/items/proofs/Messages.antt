@@ -29,7 +29,7 @@ allZero-replicate : (n : ℕ) → allZero (replicate n false) ≡ true
 allZero-replicate zero = refl
 allZero-replicate (suc n) = allZero-replicate n
 
-decode-close : (p : Items) (s : List ℕ) (room : ℕ) → 0 < length s → decode p s room ≡ closeRead (length s) (readItems p (unpack s) room 0)
+pub decode-close : (p : Items) (s : List ℕ) (room : ℕ) → 0 < length s → decode p s room ≡ closeRead (length s) (readItems p (unpack s) room 0)
 decode-close p [] room h = absurd (omega arith)
 decode-close p (o ∷ os) room h = refl
 

@@ -65,15 +65,6 @@ read-sound stop b room at vs n r e =
     rw (← ev) (record { allowed = tt; spelt = er; fits = omega arith; ends = omega arith })
 read-sound (ask c k) b room at vs n r e = sound-ask c k b at (λ v. read-sound (k v)) (decodeItem c b) refl room vs n r e
 
--- hence there is one reading of some bits: two lists that are allowed and whose bits begin the same bits are the same
-pub items-unique : (p : Items) (vs ws : List ℤ) (r s : List Bool) → Allows p vs → Allows p ws → encodingBits p vs ++ r ≡ encodingBits p ws ++ s → (vs ≡ ws) × (r ≡ s)
-items-unique p vs ws r s hv hw e =
-    let room = length vs + length ws in
-    let a = read-complete p vs r room 0 hv (omega arith) in
-    let b = read-complete p ws s room 0 hw (omega arith) in
-    let x = sym a ∙ ap (λ l. readItems p l room 0) e ∙ b in
-    (cc, cc)
-
 -- reading one after the other
 abbrev pub bind : ℕ → Reading → (List Bool → ℕ → ℕ → Reading) → Reading
 bind room (done vs at b) f = prepend vs (f b (room - length vs) at)

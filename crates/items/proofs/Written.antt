@@ -1,14 +1,14 @@
 -- Writing: an allowed list is written as its encoding wherever that fits; what is written is the encoding of an allowed list;
 -- and what was read is written back.
 -- Assumes nothing.
-use Prim.Native.Nat.{ℕ, zero, suc, _+_, _-_, _*_, _≤_, _<_, min}
+use Prim.Native.Nat.{ℕ, zero, suc, _+_, _-_, _*_, _≤_, min}
 use mathlib.Core.Bool.{Bool, true, false}
 use mathlib.Core.Path.{_≡_, refl, sym, ap, _∙_}
 use mathlib.Core.List.{List, [], _∷_, _++_, append-nil}
 use native.Mathlib.Omega.{arith}
 use lib.Dec.{leb}
 use lib.IntN.{ℤ}
-use lib.ListN.{length, getD, length-append}
+use lib.ListN.{length, length-append}
 use borrow.Author.Tests.{leb-true, le-leb}
 use Rattle.answer.specs.Numbers.{refusalAt}
 use Rattle.answer.specs.declared.Refusal.{Refusal}
@@ -16,9 +16,7 @@ use Rattle.bits.proofs.Bits.{length-pack}
 use Rattle.item.specs.Code.{allows, valueBits}
 use Rattle.items.specs.Items.{Items, stop, ask, Allows, encodingBits}
 use Rattle.items.specs.Encoding.{size, padded, encoding}
-use Rattle.items.specs.Reading.{accept, decode}
 use Rattle.items.specs.Writing.{Writing, spelt, halted, unless, behind, writeItems, written, closeWrite, encode}
-use Rattle.items.proofs.Messages.{decode-sound}
 
 pub write-complete : (p : Items) (vs ws : List ℤ) (room i : ℕ) → Allows p vs → length (encodingBits p vs) ≤ room → writeItems p (vs ++ ws) room i ≡ spelt (encodingBits p vs) ws
 write-complete stop [] ws room i h l = refl
@@ -67,14 +65,6 @@ encode-complete p vs (suc cap) h l =
     let w : writeItems p vs (8 * min (suc cap) 65535) 0 ≡ spelt (encodingBits p vs) [] =
     rw append-nil at (write-complete p vs [] (8 * min (suc cap) 65535) 0 h (omega arith)) in
     rw w
-
--- what was read is written back
-pub written-back : (p : Items) (s : List ℕ) (room : ℕ) → ((i : ℕ) → getD s i 0 < 256) → length s ≤ 65535 → (vs : List ℤ) (n : ℕ) → decode p s room ≡ accept vs n
-    → (cap : ℕ) → length s ≤ cap → encode p vs cap ≡ written s
-written-back p s room h m vs n e cap l =
-    let a = decode-sound p s room h vs n e in
-    let z : length s ≡ size (length (encodingBits p vs)) = ap length (sym (a .octets)) ∙ length-pack _ _ in
-    encode-complete p vs cap (a .allowed) (omega arith) ∙ ap written (a .octets)
 
 -- what was written is the message of a list that is allowed
 pub record Written (p : Items) (vs : List ℤ) (cap : ℕ) (s : List ℕ) : Type 0 where

@@ -75,9 +75,6 @@ module _ {p : Items} {A : Type 0} {F : A → Type 0} {v : A → List ℤ} {b : A
       let x = spells .only vs h in
       rw (← (x .2), spells .laid (x .0) (x .1)) (whole (x .0))
 
-pub network-row-whole : (vs : List ℤ) → Allows (items lm 204) vs → length (encodingBits (items lm 204) vs) % 8 ≡ 0
-network-row-whole = spelt-whole network network-whole
-
 pub transport-row-whole : (vs : List ℤ) → Allows (items lm 278) vs → length (encodingBits (items lm 278) vs) % 8 ≡ 0
 transport-row-whole = spelt-whole transport transport-whole
 

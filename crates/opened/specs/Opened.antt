@@ -40,7 +40,7 @@ abbrev pub placeOf : Taken → ℕ
 placeOf (Number n next) = next .0
 placeOf (Refused r) = r .place
 
--- ── for the private functions: what bits::fetch gives at p, as an answer ──
+-- ── for the private functions: what access::fetch gives at p, as an answer ──
 
 abbrev pub ofFetched : ℕ → Fetched → Taken
 ofFetched p (Bits n next) = took n (next .0)

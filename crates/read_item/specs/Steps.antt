@@ -1,4 +1,4 @@
--- What the steps of reading an item answer. No contract of a public function cites this file.
+-- What the steps of reading an item answer. No contract of a public call cites this file.
 use Prim.Native.Nat.{ℕ, _+_}
 use mathlib.Core.Bool.{Bool, cond, _&&_}
 use mathlib.Core.List.{List}

@@ -24,6 +24,7 @@ use Rattle.items.specs.Items.{Items, encodingBits}
 use Rattle.items.specs.Encoding.{size}
 use Rattle.items.specs.Reading.{Reading, done, stuck, readItems, ReadOutcome, accept, refuse, allZero, closeRead, decode, readAnswer}
 use Rattle.items.specs.Walk.{forget, walk}
+use Rattle.items.proofs.Messages.{decode-close}
 use Rattle.items.proofs.ReadItems.{read-sound}
 use Rattle.read_steps.specs.declared.Cursor.{Cursor}
 use Rattle.read_steps.specs.declared.Step.{Step}
@@ -66,10 +67,6 @@ module _ (m : List ℕ) (c : Cursor) where
       rw (eq-eqb (length m) (size (c .place .0)) e, zero-bits (drop (c .place .0) (unpack m)) (sym (q ∙ ap numberOf (rest k h)) ∙ z))
 
 -- ── the root ──
-
-decode-close : (p : Items) (s : List ℕ) (room : ℕ) → 0 < length s → decode p s room ≡ closeRead (length s) (readItems p (unpack s) room 0)
-decode-close p [] room h = absurd (omega arith)
-decode-close p (o ∷ os) room h = refl
 
 module _ (p : Items) (s : List ℕ) (room : ℕ) (old new : List ℤ) (oldPacked newPacked : List ℕ) (step : Step) (some : 0 < length s)
     (reads : Reads s room p (stateAt (cursorAt 0 0) old oldPacked) new newPacked step) where

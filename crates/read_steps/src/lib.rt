@@ -23,7 +23,7 @@ pub struct Cursor {
     pub count: usize,
 }
 
-// What reading items gives: the cursor after it, or the refusal.
+// What reading items gives: the cursor after them, or the refusal.
 pub enum Step {
     Past(Cursor),
     Refused(Refusal),

@@ -100,7 +100,7 @@ impl Row {
     }
 
     // Whether a count stands after the kind: a run's count or most, how many fields or branches, the most of octets.
-    pub fn has_count(kind: usize) -> bool
+    fn has_count(kind: usize) -> bool
         ensures { λ r. ⌜ r ≡ hasCount kind ⌝ }
     {
         Row::between(Row::FIXED_RUN, Row::OCTETS, kind)

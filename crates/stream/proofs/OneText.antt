@@ -7,9 +7,8 @@ use lib.ListN.{length, drop, length-drop}
 use Rattle.octets.specs.Numbers.{u16, u32, signed, u16s, there}
 use Rattle.bits.specs.Bits.{numberOf, bitsOf, width, unpack}
 use Rattle.row.specs.Offsets.{earlier, upTo, byOffset}
-use Rattle.row.specs.Rows.{rowOf, rowAt, rowLength}
+use Rattle.row.specs.Rows.{rowOf, rowAt, rowLength, within}
 use Rattle.rules.specs.Rules.{knownKind, flagsInBounds, numbersInBounds, branches, references, someBranch, hasBranch}
-use Rattle.row.specs.Rows.{within}
 use Rattle.rules.specs.Tests.{rowDepth, rowTest}
 use Rattle.table.specs.Verdict.{obeys, verdict}
 use Rattle.table.specs.Root.{rootFrom, root}

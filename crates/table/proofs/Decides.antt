@@ -11,6 +11,7 @@ use lib.Dec.{leb, eqb}
 use lib.ListN.{length, set, replicate, length-set, length-replicate}
 use lib.Seq.{getD-set-same, getD-set-other}
 use borrow.Author.Tests.{leb-true, leb-false, eqb-true, le-leb, eq-eqb, ne-eqb}
+use Rattle.item.proofs.CodeLaws.{and-inv}
 use Rattle.answer.specs.Numbers.{refusalAt}
 use Rattle.answer.specs.declared.Refusal.{Refusal}
 use Rattle.octets.specs.Numbers.{u16}
@@ -23,9 +24,6 @@ use Rattle.row.proofs.Offsets.{earlier-is}
 use Rattle.rules.proofs.Depths.{depth-row}
 
 -- ── the scan decides the rules ──
-
-and-inv : (a b : Bool) → a && b ≡ true → (a ≡ true) × (b ≡ true)
-and-inv a b = and-eq-true-iff a b .0
 
 and-true : (a b : Bool) → a ≡ true → b ≡ true → a && b ≡ true
 and-true a b p q = and-eq-true-iff a b .1 (p, q)

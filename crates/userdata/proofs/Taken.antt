@@ -22,13 +22,13 @@ use Rattle.table.proofs.LastRow.{root-is}
 use Rattle.items.specs.Items.{Items, stop, ask, _then_, Allows, encodingBits}
 use Rattle.encoding.specs.Rows.{items, asks, presence, fields}
 use Rattle.items.specs.Encoding.{size}
-use Rattle.items.specs.Reading.{Reading, done, stuck, prepend, readItems, ReadOutcome, accept, refuse, allZero, closeRead, decode}
+use Rattle.items.specs.Reading.{Reading, done, stuck, prepend, readItems, accept, refuse, allZero, closeRead, decode}
 use Rattle.items.specs.Walk.{forget, walk}
 use Rattle.items.proofs.ReadItems.{bind, read-then, read-sound}
 use Rattle.encoding.proofs.RowItems.{items-record}
 use Rattle.builtin.specs.Tables.{lm}
 use Rattle.builtin.proofs.Tables.{lm-obeys, lm-root}
-use Rattle.lm.specs.ByName.{lmVersion, lmSubtype, readIf, readLmOutcome}
+use Rattle.lm.specs.ByName.{lmVersion, lmSubtype, readLmOutcome}
 use Rattle.lm.specs.Clause5.{Lm, nHeaderValues, tHeaderValues, octetsValues, valuesOf, layoutBits, WellFormed}
 use Rattle.lm.proofs.Spelling.{spells-then}
 use Rattle.lm.proofs.Rows.{network, transport, layout}

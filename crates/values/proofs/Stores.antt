@@ -2,14 +2,14 @@
 use Prim.Native.Nat.{ℕ, zero, suc, _+_, _-_, _*_, _/_, _≤_, _<_, _^_}
 use mathlib.Core.Path.{_≡_, refl, sym, ap, _∙_}
 use mathlib.Core.Bool.{Bool, true, false}
-use mathlib.Core.List.{List, [], _∷_, _++_, append-assoc, append-nil}
+use mathlib.Core.List.{List, [], _∷_, _++_, append-assoc}
 use native.Mathlib.Nat.{add-zero, zero-add, suc-add}
 use native.Mathlib.Omega.{arith}
 use borrow.Author.Tests.{leb-true, leb-false, le-leb, lt-leb}
 use lib.Dec.{leb}
 use lib.IntN.{ℤ, pos}
 use lib.Signed.{mag}
-use lib.ListN.{length, getD, take, drop, set, replicate, length-append, length-set}
+use lib.ListN.{length, getD, take, drop, set, replicate, length-append}
 use lib.Seq.{take-at, drop-at, drop-drop, sets, sets-eq, length-sets}
 use Rattle.values.specs.Values.{complement, uncomplement, littleNumber, valueOctets, listOctets, valuesFrom, valuesIn, setValue, storeAll}
 use Rattle.values.specs.TwosComplement.{Fitting}
@@ -121,15 +121,8 @@ storeAll-octets (v ∷ vs) o i h =
     ∙ ap (λ (k : ℕ). sets (sets o (8 * i) one) k (listOctets vs)) e
     ∙ sym (sets-append one (listOctets vs) o (8 * i))
 
-pub length-storeAll-set : (vs l : List ℤ) (i : ℕ) → length (storeAll set l i vs) ≡ length l
-length-storeAll-set = length-storeAll set length-set
-
 pub length-storeAll-setValue : (vs : List ℤ) (o : List ℕ) (i : ℕ) → length (storeAll setValue o i vs) ≡ length o
 length-storeAll-setValue = length-storeAll setValue length-setValue
-
-pub storeAll-set : (vs l : List ℤ) (i : ℕ) → i + length vs ≤ length l
-    → storeAll set l i vs ≡ take i l ++ (vs ++ drop (i + length vs) l)
-storeAll-set vs l i h = storeAll-sets vs l i ∙ sets-between vs l i h
 
 pub storeAll-setValue : (vs : List ℤ) (o : List ℕ) (i : ℕ) → 8 * (i + length vs) ≤ length o
     → storeAll setValue o i vs ≡ take (8 * i) o ++ (listOctets vs ++ drop (8 * (i + length vs)) o)
@@ -216,13 +209,6 @@ valuesFrom-listOctets (v ∷ vs) n r f =
     ∙ ap (λ (u : ℤ). u ∷ valuesFrom (length vs + n) (drop 8 (valueOctets v ++ tail))) (value-back v (f 0))
     ∙ ap (λ (o : List ℕ). v ∷ valuesFrom (length vs + n) o) (drop-valueOctets v tail)
     ∙ ap (λ (us : List ℤ). v ∷ us) (valuesFrom-listOctets vs n r (λ i. f (suc i)))
-
--- the first values of their octets are they again
-pub first-values : (vs : List ℤ) (r : List ℕ) → Fitting vs → valuesFrom (length vs) (listOctets vs ++ r) ≡ vs
-unfolding valuesFrom
-first-values vs r f =
-    ap (λ (k : ℕ). valuesFrom k (listOctets vs ++ r)) (sym (add-zero (length vs)))
-    ∙ valuesFrom-listOctets vs 0 r f ∙ append-nil vs
 
 pub valuesIn-listOctets : (vs : List ℤ) (r : List ℕ) → Fitting vs → valuesIn (listOctets vs ++ r) ≡ vs ++ valuesIn r
 unfolding valuesIn

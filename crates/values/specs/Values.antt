@@ -1,7 +1,7 @@
 -- Values in memory: as a slice of 64-bit numbers, or as octets, eight for each value, little-endian, two's complement
 -- (document 01, the host's calls). Octets after the last whole eight hold no value.
 use Prim.Native.Nat.{ℕ, zero, suc, _+_, _-_, _*_, _/_, _%_, _^_}
-use mathlib.Core.Bool.{Bool, cond}
+use mathlib.Core.Bool.{cond}
 use mathlib.Core.List.{List, [], _∷_, _++_}
 use lib.Dec.{leb, ltb}
 use lib.IntN.{ℤ, pos, negsuc}

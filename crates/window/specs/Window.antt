@@ -1,4 +1,4 @@
--- Five octets of a list as one number of 40 bits: how fetching and storing go about it. No contract of a public function
+-- Five octets of a list as one number of 40 bits: how fetching and storing go about it. No contract of a public call
 -- cites this file.
 use Prim.Native.Nat.{ℕ, _+_, _*_, _/_, _%_, _^_}
 use mathlib.Core.List.{List}

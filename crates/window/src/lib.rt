@@ -3,6 +3,7 @@
 ghost use mathlib.Core.Path.{_≡_};
 ghost use Prim.Native.Nat.{_+_, _*_, _<_, _≤_, _^_};
 ghost use lib.ListN.{length, getD, set};
+ghost use Rattle.bits.specs.Access.{mostOctets};
 ghost use Rattle.window.specs.Window.{fourAt, windowAt, withWindow, placed};
 
 fn wide(x: u8) -> u64
@@ -36,7 +37,7 @@ fn joined(a: u64, b: u64, c: u64, d: u64, e: u64) -> u64
 
 // Four octets from i on, all of them there: the compiler makes one load of this sum.
 fn four_inside(s: &[u8], i: usize) -> u64
-    requires { ⌜ (i < 65536) × (i + 3 < length (now s)) ⌝ }
+    requires { ⌜ (i ≤ mostOctets) × (i + 3 < length (now s)) ⌝ }
     ensures { λ r. ⌜ (r ≡ fourAt (now (s .entry)) i) × (r < 2 ^ 32) ⌝ }
 {
     let a = octet_inside(s, i);
@@ -48,7 +49,7 @@ fn four_inside(s: &[u8], i: usize) -> u64
 
 // Five octets from i on, all of them there.
 fn window_inside(s: &[u8], i: usize) -> u64
-    requires { ⌜ (i < 65536) × (i + 4 < length (now s)) ⌝ }
+    requires { ⌜ (i ≤ mostOctets) × (i + 4 < length (now s)) ⌝ }
     ensures { λ r. ⌜ (r ≡ windowAt (now (s .entry)) i) × (r < 2 ^ 40) ⌝ }
 {
     let four = four_inside(s, i);
@@ -57,7 +58,7 @@ fn window_inside(s: &[u8], i: usize) -> u64
 
 // Five octets from i on.
 pub fn window(s: &[u8], i: usize) -> u64
-    requires { ⌜ i < 65536 ⌝ }
+    requires { ⌜ i ≤ mostOctets ⌝ }
     ensures { λ r. ⌜ (r ≡ windowAt (now (s .entry)) i) × (r < 2 ^ 40) ⌝ }
 {
     if i + 4 < s.len() {
@@ -82,7 +83,7 @@ fn set_octet(s: &mut [u8], i: usize, b: u8)
 
 // Stores the five octets of a number from i on.
 pub fn put_window(s: &mut [u8], i: usize, window: u64)
-    requires { ⌜ i < 65536 ⌝ }
+    requires { ⌜ i ≤ mostOctets ⌝ }
     ensures { λ _. ⌜ now (s .exit) ≡ withWindow (now (s .entry)) i window ⌝ }
 {
     let a = (window / 4294967296 % 256) as u8;

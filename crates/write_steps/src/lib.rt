@@ -21,7 +21,7 @@ pub struct Cursor {
     pub index: usize,
 }
 
-// What writing items gives: the cursor after it, or the refusal, whose place is the index of its value.
+// What writing items gives: the cursor after them, or the refusal, whose place is the index of its value.
 pub enum Step {
     Past(Cursor),
     Refused(Refusal),

@@ -18,13 +18,7 @@ ghost use Rattle.write_steps.specs.Writes.{listIn};
 ghost use Rattle.write_steps.specs.Ends.{WrittenBy};
 
 // A list under a passed table whose root is at an offset, into at most 65,535 octets: the root, then its end.
-pub fn write_root(
-    table: &[u8],
-    at: usize,
-    values: &[i64],
-    packed: &[u8],
-    output: &mut [u8],
-) -> Answer
+fn write_root(table: &[u8], at: usize, values: &[i64], packed: &[u8], output: &mut [u8]) -> Answer
     requires { ⌜ Obeys (now table) × (at ≡ root (now table)) × (length (now output) ≤ mostOctets) ⌝ }
     ensures { λ r. ⌜ (r ≡ writeAnswer (encode (asks (now (table .entry))) (listIn (now (values .entry)) (now (packed .entry))) (length (now (output .entry))))) × WrittenBy (encode (asks (now (table .entry))) (listIn (now (values .entry)) (now (packed .entry))) (length (now (output .entry)))) (now (output .exit)) ⌝ }
 {

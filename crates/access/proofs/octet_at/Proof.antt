@@ -11,8 +11,6 @@ use Rattle.window.proofs.InWindow.{number-in-pair}
 use Rattle.access.proofs.octet_at.Statement.{statement}
 use Rattle.access.proofs.octet_at.Tie as tie
 
--- src/lib.rt:120:9
--- src/lib.rt:122:9
 returns : tie.Need-returns
 returns c =
     let known = c .before .before in
@@ -28,14 +26,6 @@ returns c =
       c .before .octet-inside .ensures .1,
     )
 
--- src/lib.rt:124:46
--- src/lib.rt:124:9
--- src/lib.rt:125:7
--- src/lib.rt:125:7
--- src/lib.rt:125:33
--- src/lib.rt:125:33
--- src/lib.rt:125:6
--- src/lib.rt:116:1
 returns-2 : tie.Need-returns-2
 returns-2 c =
     let known = c .before .before .before in

@@ -10,15 +10,11 @@ use borrow.Author.Needs.{needs}
 use Rattle.values.proofs.keep_octets.Statement.{statement}
 use Rattle.values.proofs.keep_octets.Tie as tie
 
--- src/lib.rt:104:9
--- src/lib.rt:100:1
--- src/lib.rt:100:1
 returns : tie.Need-returns
 returns c =
     let start = c .before .before .before .before .before .before in
     c .before .before .store-value .ensures ∙ ap (setValue (now (start .args .octets)) (start .args .at)) (toZ-ofZ {w = w64} (start .fits .value))
 
--- src/lib.rt:100:1
 returns-2 : tie.Need-returns-2
 returns-2 c =
     let start = c .before .before in

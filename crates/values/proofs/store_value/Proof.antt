@@ -12,11 +12,6 @@ use borrow.Author.Needs.{needs}
 use Rattle.values.proofs.store_value.Statement.{statement}
 use Rattle.values.proofs.store_value.Tie as tie
 
--- src/lib.rt:96:25
--- src/lib.rt:96:33
--- src/lib.rt:96:5
--- src/lib.rt:92:1
--- src/lib.rt:92:1
 returns : tie.Need-returns
 unfolding valueOctets
 returns c =

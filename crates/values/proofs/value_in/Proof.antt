@@ -10,10 +10,6 @@ use borrow.Author.Needs.{needs}
 use Rattle.values.proofs.value_in.Statement.{statement}
 use Rattle.values.proofs.value_in.Tie as tie
 
--- src/lib.rt:128:35
--- src/lib.rt:128:9
--- src/lib.rt:129:5
--- src/lib.rt:124:1
 returns : tie.Need-returns
 returns c =
     let a = c .before .before .before .args in
