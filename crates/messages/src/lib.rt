@@ -3,9 +3,6 @@
 pub mod either;
 
 use answer::Answer;
-use answer::Refusal;
-use bits::BitPlace;
-use bits::OctetSize;
 ghost use mathlib.Core.Path.{_≡_};
 ghost use lib.ListN.{length};
 ghost use Rattle.encoding.specs.Reading.{readOutcome};
@@ -14,7 +11,6 @@ ghost use Rattle.encoding.specs.Calls.{readCall, writeCall};
 ghost use Rattle.items.specs.Slices.{valuesAfter, outputAfter};
 ghost use Rattle.builtin.specs.Tables.{sam, srm};
 ghost use Rattle.lm.specs.ByName.{readLmOutcome, readLmCall, writeLmOutcome, writeLmCall};
-ghost use Rattle.messages.specs.Tested.{lmListTested};
 
 // Reads an LM into the value slice.
 pub fn read_lm(message: &[u8], values: &mut [i64]) -> Answer
@@ -42,32 +38,11 @@ pub fn read_srm(message: &[u8], values: &mut [i64]) -> Answer
     reading::read_known(&builtin::SRM, builtin::SRM_ROOT, message, values)
 }
 
-// The tests before an LM's values: 12 on a list shorter than 3, 10 on the third value, 11 on the first. What passes them is
-// accepted, and counts nothing.
-fn lm_list_tested(values: &[i64]) -> Answer
-    ensures { λ r. ⌜ r ≡ lmListTested (now (values .entry)) ⌝ }
-{
-    if values.len() < 3 {
-        return Answer::refused(Refusal::WRONG_VALUE, values.len());
-    }
-    if values[2] != 3 {
-        return Answer::refused(Refusal::WRONG_VERSION, 2);
-    }
-    let subtype = values[0];
-    if subtype < 0 {
-        return Answer::refused(Refusal::WRONG_SUBTYPE, 0);
-    }
-    if 2 < subtype {
-        return Answer::refused(Refusal::WRONG_SUBTYPE, 0);
-    }
-    Answer::accepted(0, BitPlace(0), OctetSize(0))
-}
-
 // Writes an LM into the output.
 pub fn write_lm(values: &[i64], output: &mut [u8]) -> Answer
     ensures { λ r. ⌜ (r ≡ writeLmCall (now (values .entry)) (length (now (output .entry)))) × (now (output .exit) ≡ outputAfter (length (now (output .entry))) (writeLmOutcome (now (values .entry)) (length (now (output .entry))))) ⌝ }
 {
-    let tested = lm_list_tested(values);
+    let tested = lm_tests::lm_list_tested(values);
     let Answer::Accepted(_) = tested else {
         values::clear_octets(output, 0);
         return tested;
