@@ -11,7 +11,7 @@ ghost use Rattle.lm.specs.ByName.{readLmOutcome};
 pub fn lm_message(message: &[u8], values: &mut [i64], packed: &mut [u8], room: usize) -> Answer
     ensures { λ r. ⌜ (r ≡ readAnswer (readLmOutcome (now (message .entry)) room)) × KeptBy set (readLmOutcome (now (message .entry)) room) (now (values .entry)) (now (values .exit)) × KeptBy setValue (readLmOutcome (now (message .entry)) room) (now (packed .entry)) (now (packed .exit)) ⌝ }
 {
-    let tested = lm_tests::lm_tested(message);
+    let tested = lm_guard::lm_tested(message);
     let Answer::Accepted(_) = tested else {
         return tested;
     };

@@ -42,7 +42,7 @@ pub fn read_srm(message: &[u8], values: &mut [i64]) -> Answer
 pub fn write_lm(values: &[i64], output: &mut [u8]) -> Answer
     ensures { λ r. ⌜ (r ≡ writeLmCall (now (values .entry)) (length (now (output .entry)))) × (now (output .exit) ≡ outputAfter (length (now (output .entry))) (writeLmOutcome (now (values .entry)) (length (now (output .entry))))) ⌝ }
 {
-    let tested = lm_tests::lm_list_tested(values);
+    let tested = lm_guard::lm_list_tested(values);
     let Answer::Accepted(_) = tested else {
         values::clear_octets(output, 0);
         return tested;

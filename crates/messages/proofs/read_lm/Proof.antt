@@ -9,7 +9,7 @@ use Rattle.items.specs.Reading.{readValues}
 use Rattle.read_steps.specs.Ends.{keptCount}
 use Rattle.read_steps.proofs.Settled.{count-is, settled-values}
 use Rattle.lm.specs.ByName.{readLmOutcome}
-use Rattle.lm_tests.proofs.Tests.{lm-fits}
+use Rattle.lm_guard.proofs.Tests.{lm-fits}
 use borrow.Author.Needs.{needs}
 use Rattle.messages.proofs.read_lm.Statement.{statement}
 use Rattle.messages.proofs.read_lm.Tie as tie

@@ -11,14 +11,14 @@ use Rattle.values.specs.Values.{valuesIn, valuesFrom}
 use Rattle.items.specs.Slices.{filled, outputAfter}
 use Rattle.items.specs.Writing.{writeAnswer}
 use Rattle.writing.proofs.Passed.{write-passed}
-use Rattle.lm_tests.proofs.ListTests.{list-passed, list-refused}
+use Rattle.lm_guard.proofs.ListTests.{list-passed, list-refused}
 use borrow.Author.Needs.{needs}
 use Rattle.messages.proofs.write_lm.Statement.{statement}
 use Rattle.messages.proofs.write_lm.Tie as tie
 use Rattle.messages.proofs.write_lm.Reads as reads
 use Rattle.messages.proofs.write_lm.Lts as lts
 use Rattle.writing.proofs.write_known.Reads as write-known-reads
-use Rattle.lm_tests.proofs.lm_list_tested.Reads as lm-list-tested-reads
+use Rattle.lm_guard.proofs.lm_list_tested.Reads as lm-list-tested-reads
 use Rattle.values.proofs.clear_octets.Reads as clear-octets-reads
 
 lm-list-tested-requires : tie.Need-lm-list-tested-requires

@@ -5,14 +5,14 @@ use mathlib.Core.Path.{sym, _∙_}
 use denote.Ref.{now}
 use Rattle.builtin.specs.Tables.{lm}
 use Rattle.builtin.proofs.Tables.{lm-obeys, lm-root}
-use Rattle.lm_tests.proofs.Tests.{fine, unfit}
+use Rattle.lm_guard.proofs.Tests.{fine, unfit}
 use borrow.Author.Needs.{needs}
 use Rattle.messages.proofs.either.lm_message.Statement.{statement}
 use Rattle.messages.proofs.either.lm_message.Tie as tie
 use Rattle.messages.proofs.either.lm_message.Reads as reads
 use Rattle.messages.proofs.either.lm_message.Lts as lts
 use Rattle.reading.proofs.read_message.Reads as read-message-reads
-use Rattle.lm_tests.proofs.lm_tested.Reads as lm-tested-reads
+use Rattle.lm_guard.proofs.lm_tested.Reads as lm-tested-reads
 
 lm-tested-requires : tie.Need-lm-tested-requires
 lm-tested-requires c κs = search needs

@@ -20,7 +20,7 @@ use Rattle.items.specs.Reading.{ReadOutcome, accept, refuse, decode, readValues
 use Rattle.items.proofs.Messages.{decode-fits}
 use Rattle.builtin.specs.Tables.{lm}
 use Rattle.lm.specs.ByName.{lmVersion, lmSubtype, readIf, readLmOutcome}
-use Rattle.lm_tests.specs.Tested.{answerIf, lmTested}
+use Rattle.lm_guard.specs.Tested.{answerIf, lmTested}
 
 -- ── each test as the code makes it ──
 

@@ -22,8 +22,8 @@ use Rattle.encoding.specs.Rows.{asks}
 use Rattle.items.specs.Writing.{encode, writeAnswer, writeOctets}
 use Rattle.builtin.specs.Tables.{lm}
 use Rattle.lm.specs.ByName.{writeIf, writeLmOutcome}
-use Rattle.lm_tests.specs.Tested.{answerIf, lmListTested}
-use Rattle.lm_tests.proofs.Tests.{answerIf-accepted}
+use Rattle.lm_guard.specs.Tested.{answerIf, lmListTested}
+use Rattle.lm_guard.proofs.Tests.{answerIf-accepted}
 
 module _ (z : ℤ) (small : mag z < 2 ^ hbits w64) where
   held : toZ w64 (ofZ w64 z) ≡ z

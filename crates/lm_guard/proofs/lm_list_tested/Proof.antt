@@ -1,16 +1,16 @@
--- `lm_tests::lm_list_tested` meets its contract. Each test as it is made.
+-- `lm_guard::lm_list_tested` meets its contract. Each test as it is made.
 -- Assumes nothing.
 use Prim.Native.Nat.{_-_}
 use mathlib.Core.Path.{_∙_}
 use denote.Ref.{now}
 use lib.ListN.{getD}
 use lib.IntN.{pos}
-use Rattle.lm_tests.proofs.ListTests.{version-three, version-other, subtype-negative, subtype-high, subtype-fine, list-short, list-version, list-subtype, list-fine}
+use Rattle.lm_guard.proofs.ListTests.{version-three, version-other, subtype-negative, subtype-high, subtype-fine, list-short, list-version, list-subtype, list-fine}
 use borrow.Author.Needs.{needs}
-use Rattle.lm_tests.proofs.lm_list_tested.Statement.{statement}
-use Rattle.lm_tests.proofs.lm_list_tested.Tie as tie
-use Rattle.lm_tests.proofs.lm_list_tested.Reads as reads
-use Rattle.lm_tests.proofs.lm_list_tested.Lts as lts
+use Rattle.lm_guard.proofs.lm_list_tested.Statement.{statement}
+use Rattle.lm_guard.proofs.lm_list_tested.Tie as tie
+use Rattle.lm_guard.proofs.lm_list_tested.Reads as reads
+use Rattle.lm_guard.proofs.lm_list_tested.Lts as lts
 use Rattle.answer.proofs.Answer.accepted.Reads as accepted-reads
 use Rattle.answer.proofs.Answer.refused.Reads as refused-reads
 

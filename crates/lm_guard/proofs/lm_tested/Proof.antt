@@ -1,16 +1,16 @@
--- `lm_tests::lm_tested` meets its contract. Each test as it is made.
+-- `lm_guard::lm_tested` meets its contract. Each test as it is made.
 -- Assumes nothing.
 use Prim.Native.Nat.{_-_}
 use mathlib.Core.Path.{sym, _∙_}
 use native.Mathlib.Omega.{arith}
 use denote.Ref.{now}
 use Rattle.bits.proofs.Access.{fetched-Short, fetched-Bits}
-use Rattle.lm_tests.proofs.Tests.{tested-long, tested-empty, tested-version, tested-subtype, tested-fine}
+use Rattle.lm_guard.proofs.Tests.{tested-long, tested-empty, tested-version, tested-subtype, tested-fine}
 use borrow.Author.Needs.{needs}
-use Rattle.lm_tests.proofs.lm_tested.Statement.{statement}
-use Rattle.lm_tests.proofs.lm_tested.Tie as tie
-use Rattle.lm_tests.proofs.lm_tested.Reads as reads
-use Rattle.lm_tests.proofs.lm_tested.Lts as lts
+use Rattle.lm_guard.proofs.lm_tested.Statement.{statement}
+use Rattle.lm_guard.proofs.lm_tested.Tie as tie
+use Rattle.lm_guard.proofs.lm_tested.Reads as reads
+use Rattle.lm_guard.proofs.lm_tested.Lts as lts
 use Rattle.answer.proofs.Answer.accepted.Reads as accepted-reads
 use Rattle.answer.proofs.Answer.refused.Reads as refused-reads
 use Rattle.access.proofs.fetch.Reads as fetch-reads

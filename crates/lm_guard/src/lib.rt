@@ -6,7 +6,7 @@ use bits::BitPlace;
 use bits::Fetched;
 use bits::OctetSize;
 ghost use mathlib.Core.Path.{_≡_};
-ghost use Rattle.lm_tests.specs.Tested.{lmTested, lmListTested};
+ghost use Rattle.lm_guard.specs.Tested.{lmTested, lmListTested};
 
 // The tests before an LM's items: 13, 2 where there are no octets, 10 on the version, 11 on the subtype. What passes them is
 // accepted, and counts nothing.
