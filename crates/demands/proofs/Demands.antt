@@ -11,6 +11,8 @@ use Rattle.encoding.proofs.Demand2.{demand2}
 use Rattle.items.proofs.Filled.{filled-up, zeros-after}
 use Rattle.encoding.proofs.Demand3.{demand3}
 use Rattle.encoding.proofs.Demand3Octets.{demand3-octets}
+use Rattle.visits.proofs.Visits.{visits}
+use Rattle.visits.proofs.Reached.{reached}
 use Rattle.builtin.proofs.Tables.{built-in}
 use Rattle.lm.proofs.Demand3Lm.{demand3-lm}
 use Rattle.lm.proofs.Demand2.{demand2-lm}
@@ -43,4 +45,6 @@ demands = record {
   userData = user-data-placed;
   cases = given;
   userDataCases = user-data-cases;
+  visits = visits;
+  visitsReached = reached;
 }

@@ -21,6 +21,8 @@ use Rattle.encoding.specs.Demand2.{Demand2}
 use Rattle.items.specs.Filled.{FilledUp, ZerosAfter}
 use Rattle.encoding.specs.Demand3.{AreOctets, Demand3}
 use Rattle.encoding.specs.Demand3Octets.{Demand3Octets}
+use Rattle.visits.specs.Visits.{Visits}
+use Rattle.visits.specs.Reached.{Reached}
 use Rattle.builtin.specs.Built.{BuiltIn}
 use Rattle.lm.specs.Demand3Lm.{Demand3Lm}
 use Rattle.lm.specs.Demand2.{Demand2Lm}
@@ -67,3 +69,7 @@ pub record Demands : Type 1 where
   -- the twelve marked cases, and where the user data stands in those that are LMs
   pub cases : Given
   pub userDataCases : UserDataCases
+  -- ── beside the demands ──
+  -- how many rows a call visits at most, and that it may be so many
+  pub visits : (t : List ℕ) → Visits t
+  pub visitsReached : Reached

@@ -1,0 +1,5 @@
+pub mod Rows
+pub mod Unmarked
+pub mod Spaced
+pub mod Visits
+pub mod Reached

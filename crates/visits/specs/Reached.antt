@@ -1,0 +1,23 @@
+-- The bounds of Visits.antt are reached, where there is no room: by a table 32 rows deep, each of which is visited before the first
+-- value. The proof is proofs/Reached.antt.
+use Prim.Native.Nat.{ℕ, zero, suc, _+_, _/_, _%_}
+use mathlib.Core.Path.{_≡_}
+use mathlib.Core.List.{List, [], _∷_}
+use Rattle.rules.specs.Rules.{Obeys}
+use Rattle.visits.specs.Visits.{visitedInReading, visitedInWriting}
+
+-- n fixed runs from o on, each of one item: the first run of the row at r, every other of the run before it
+unfoldable pub nested : ℕ → ℕ → ℕ → List ℕ
+nested zero r o = []
+nested (suc n) r o = 8 ∷ 0 ∷ 3 ∷ 0 ∷ 1 ∷ 0 ∷ r % 256 ∷ r / 256 ∷ nested n o (o + 8)
+
+-- a number of no bits, and 31 runs around it
+unfoldable pub deep : List ℕ
+deep = 12 ∷ 0 ∷ 1 ∷ 0 ∷ 0 ∷ 0 ∷ 0 ∷ 0 ∷ 0 ∷ 0 ∷ 0 ∷ 0 ∷ nested 31 0 12
+
+pub record Reached : Type 0 where
+  pub obeys : Obeys deep
+  -- the octet 00, with no room
+  pub reading : visitedInReading deep (0 ∷ []) 0 ≡ 32
+  -- no value, into one octet
+  pub writing : visitedInWriting deep [] 1 ≡ 32

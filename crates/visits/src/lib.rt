@@ -1,0 +1,1 @@
+// The crate holds definitions and their laws: how many rows reading and writing visit. Nothing runs here.
