@@ -13,6 +13,7 @@
 //! | `read` | reading under a table |
 //! | `write` | writing under a table |
 //! | `lm` | an LM by name, and its user data |
+//! | `straight` | an LM by name, read without a table |
 //! | `elements` | the known extension elements |
 //! | `opened` | the opened message |
 //! | `bench` | the bench program |
@@ -23,6 +24,7 @@ mod elements;
 mod lm;
 mod opened;
 mod read;
+pub mod straight;
 mod table;
 mod write;
 
