@@ -1,13 +1,21 @@
-// What the benchmark calls of asn1c's code. A kind is 0 for an LM and 1 for a SAM.
+// What the benchmark calls of asn1c's code. A kind is the place of its type in the list below.
 #include <stdlib.h>
 
 #include <Lm.h>
+#include <OctetNumbers.h>
 #include <Sam.h>
+#include <TwoOctetNumbers.h>
 #include <per_support.h>
 
 static asn_TYPE_descriptor_t *type_of(int kind)
 {
-    return kind == 0 ? &asn_DEF_Lm : &asn_DEF_Sam;
+    static asn_TYPE_descriptor_t *const types[] = {
+        &asn_DEF_Lm,
+        &asn_DEF_Sam,
+        &asn_DEF_OctetNumbers,
+        &asn_DEF_TwoOctetNumbers,
+    };
+    return types[kind];
 }
 
 void asn1c_free(int kind, void *structure)

@@ -3,7 +3,7 @@
 use std::ffi::{c_int, c_void};
 use std::ptr::NonNull;
 
-use teyolxan_host::by_name::Name;
+use crate::subjects::Kind;
 
 extern "C" {
     fn asn1c_decode(kind: c_int, message: *const u8, length: usize) -> *mut c_void;
@@ -25,12 +25,13 @@ pub struct Structure {
 }
 
 impl Structure {
-    /// Nothing where the octets are no such message, or one that the module lacks.
-    pub fn decode(name: Name, message: &[u8]) -> Option<Structure> {
-        let kind = match name {
-            Name::Lm => 0,
-            Name::Sam => 1,
-            Name::Srm => return None,
+    /// Nothing where the octets are no such message.
+    pub fn decode(kind: Kind, message: &[u8]) -> Option<Structure> {
+        let kind = match kind {
+            Kind::Lm => 0,
+            Kind::Sam => 1,
+            Kind::OctetNumbers => 2,
+            Kind::TwoOctetNumbers => 3,
         };
         // SAFETY: pointer and length are those of a live slice, which is only read.
         let pointer = unsafe { asn1c_decode(kind, message.as_ptr(), message.len()) };

@@ -6,19 +6,21 @@ use std::hint::black_box;
 use teyolxan_host::api;
 use teyolxan_host::by_name::{self, Name};
 use teyolxan_host::codec::Answer;
-use teyolxan_host::reference::{self, Opened, Passed};
+use teyolxan_host::reference::{self, straight, Opened, Passed};
 
 #[cfg(feature = "asn1c")]
 use crate::asn1c;
-use crate::subjects::{Job, Message, Subject};
+use crate::subjects::{Job, Kind, Message, Subject};
 
-/// Who makes the call. A lent table is checked in the call, any other is known beforehand.
+/// Who makes the call. A lent table is checked in the call, any other is known beforehand; straight
+/// Rust has none.
 #[derive(Clone, Copy, Debug, PartialEq, Eq)]
 pub enum Way {
     Ours,
     OursLent,
     Rust,
     RustLent,
+    Straight,
     Asn1c,
 }
 
@@ -29,6 +31,9 @@ impl Way {
             Job::Read | Job::Write => vec![Way::Ours, Way::OursLent, Way::Rust, Way::RustLent],
             Job::Take | Job::Check => vec![Way::Ours, Way::Rust],
         };
+        if job == Job::Read {
+            ways.push(Way::Straight);
+        }
         if cfg!(feature = "asn1c") && job != Job::Check {
             ways.push(Way::Asn1c);
         }
@@ -43,6 +48,7 @@ impl Way {
             (Way::Rust, _) => "Rust",
             (Way::OursLent, _) => "ours lent",
             (Way::RustLent, _) => "Rust lent",
+            (Way::Straight, _) => "straight Rust",
             (Way::Asn1c, _) => "asn1c",
         }
     }
@@ -78,24 +84,31 @@ fn passed(table: &[u8]) -> Passed<'static> {
 // ---- Reading ---------------------------------------------------------------------------------
 
 fn read(message: &Message, way: Way) -> Option<Work> {
-    let (name, table) = (message.name, message.table.clone());
+    let table = message.table.clone();
     match way {
-        Way::Ours => reading(message, move |octets, values| {
-            by_name::read(name, octets, values)
-        }),
+        Way::Ours => {
+            let name = message.kind.name()?;
+            reading(message, move |octets, values| {
+                by_name::read(name, octets, values)
+            })
+        }
         Way::OursLent => reading(message, move |octets, values| {
             api::read(black_box(&table), octets, values)
         }),
-        Way::Rust if name == Name::Lm => reading(message, reference::read_lm_into),
-        Way::Rust => {
-            let table = passed(&table);
-            reading(message, move |octets, values| {
-                table.read_into(octets, values)
-            })
-        }
+        Way::Rust => match message.kind.name()? {
+            Name::Lm => reading(message, reference::read_lm_into),
+            Name::Sam | Name::Srm => {
+                let table = passed(&table);
+                reading(message, move |octets, values| {
+                    table.read_into(octets, values)
+                })
+            }
+        },
         Way::RustLent => reading(message, move |octets, values| {
             reference::read_into(black_box(&table), octets, values)
         }),
+        Way::Straight if message.kind == Kind::Lm => reading(message, straight::read_lm_into),
+        Way::Straight => None,
         Way::Asn1c => asn1c_reading(message),
     }
 }
@@ -120,24 +133,30 @@ fn reading(
 // ---- Writing ---------------------------------------------------------------------------------
 
 fn write(message: &Message, way: Way) -> Option<Work> {
-    let (name, table) = (message.name, message.table.clone());
+    let table = message.table.clone();
     match way {
-        Way::Ours => writing(message, move |values, output| {
-            by_name::write(name, values, output)
-        }),
+        Way::Ours => {
+            let name = message.kind.name()?;
+            writing(message, move |values, output| {
+                by_name::write(name, values, output)
+            })
+        }
         Way::OursLent => writing(message, move |values, output| {
             api::write(black_box(&table), values, output)
         }),
-        Way::Rust if name == Name::Lm => writing(message, reference::write_lm_into),
-        Way::Rust => {
-            let table = passed(&table);
-            writing(message, move |values, output| {
-                table.write_into(values, output)
-            })
-        }
+        Way::Rust => match message.kind.name()? {
+            Name::Lm => writing(message, reference::write_lm_into),
+            Name::Sam | Name::Srm => {
+                let table = passed(&table);
+                writing(message, move |values, output| {
+                    table.write_into(values, output)
+                })
+            }
+        },
         Way::RustLent => writing(message, move |values, output| {
             reference::write_into(black_box(&table), values, output)
         }),
+        Way::Straight => None,
         Way::Asn1c => asn1c_writing(message),
     }
 }
@@ -214,7 +233,7 @@ fn take(width: u32, way: Way) -> Option<Work> {
             })
         }
         Way::Asn1c => asn1c_taking(width),
-        Way::OursLent | Way::RustLent => None,
+        Way::OursLent | Way::RustLent | Way::Straight => None,
     }
 }
 
@@ -244,9 +263,9 @@ fn check(table: Vec<u8>, way: Way) -> Option<Work> {
 #[cfg(feature = "asn1c")]
 fn asn1c_reading(message: &Message) -> Option<Work> {
     asn1c_tried(message);
-    let (name, octets) = (message.name, message.octets.clone());
+    let (kind, octets) = (message.kind, message.octets.clone());
     Some(repeated(move || {
-        asn1c::Structure::decode(name, black_box(&octets)).is_some()
+        asn1c::Structure::decode(kind, black_box(&octets)).is_some()
     }))
 }
 
@@ -262,7 +281,7 @@ fn asn1c_writing(message: &Message) -> Option<Work> {
 #[cfg(feature = "asn1c")]
 fn asn1c_tried(message: &Message) -> asn1c::Structure {
     let title = message.title;
-    let structure = asn1c::Structure::decode(message.name, &message.octets)
+    let structure = asn1c::Structure::decode(message.kind, &message.octets)
         .unwrap_or_else(|| panic!("asn1c does not read {title}"));
     let mut output = vec![0; message.output];
     let size = structure

@@ -1,6 +1,7 @@
 //! Times, and instructions by valgrind's callgrind.
 
 use std::env;
+use std::mem;
 use std::process::Command;
 use std::time::{Duration, Instant};
 
@@ -21,44 +22,83 @@ const NO_REPEATED_STORE: (&str, &str) = (
     "glibc.cpu.x86_rep_stosb_threshold=1073741824",
 );
 
-fn time(work: &mut Work, count: u64) -> Duration {
-    let start = Instant::now();
-    work(count);
-    start.elapsed()
+/// What a call costs: a number for each round of a measurement. A count has one round.
+pub struct Cost(Vec<f64>);
+
+impl Cost {
+    /// The median of the rounds.
+    pub fn number(&self) -> f64 {
+        median(self.0.clone())
+    }
+
+    /// The median of the rounds' ratios: what moves a whole round meets both sides of its ratio.
+    pub fn ratio(&self, other: &Cost) -> f64 {
+        let rounds = self.0.iter().zip(&other.0);
+        median(rounds.map(|(ours, other)| ours / other).collect())
+    }
 }
 
-/// The nanoseconds of a call for each way: the best of the rounds' medians. The ways take turns, so
-/// that what else the machine does meets them alike.
-pub fn times(job: Job, subject: &Subject) -> Vec<Option<f64>> {
-    let mut works: Vec<Option<(Work, u64, f64)>> = Vec::new();
-    for way in Way::of(job) {
-        works.push(prepare(job, subject, way).map(|mut work| {
-            let mut count = 1;
-            while time(&mut work, count) < SAMPLE {
-                count *= 2;
-            }
-            (work, count, f64::INFINITY)
-        }));
-    }
-    for _ in 0..ROUNDS {
-        let mut samples = vec![Vec::new(); works.len()];
-        for _ in 0..SAMPLES {
-            for (samples, work) in samples.iter_mut().zip(&mut works) {
-                if let Some((work, count, _)) = work {
-                    samples.push(time(work, *count).as_nanos() as f64 / *count as f64);
-                }
-            }
+/// The one in the middle; there is an odd count of numbers.
+fn median(mut numbers: Vec<f64>) -> f64 {
+    numbers.sort_by(f64::total_cmp);
+    numbers[numbers.len() / 2]
+}
+
+/// A call that is timed.
+struct Timed {
+    work: Work,
+    /// The calls that take as long as a sample.
+    count: u64,
+    /// The nanoseconds of a call: by the samples of this round, and by the rounds before.
+    samples: Vec<f64>,
+    rounds: Vec<f64>,
+}
+
+impl Timed {
+    fn new(work: Work) -> Timed {
+        let mut timed = Timed {
+            work,
+            count: 1,
+            samples: Vec::new(),
+            rounds: Vec::new(),
+        };
+        while timed.time() < SAMPLE {
+            timed.count *= 2;
         }
-        for (samples, work) in samples.iter_mut().zip(&mut works) {
-            samples.sort_by(f64::total_cmp);
-            if let Some((_, _, best)) = work {
-                *best = best.min(samples[SAMPLES / 2]);
-            }
-        }
+        timed
     }
-    works
+
+    fn time(&mut self) -> Duration {
+        let start = Instant::now();
+        (self.work)(self.count);
+        start.elapsed()
+    }
+
+    fn sample(&mut self) {
+        let time = self.time().as_nanos() as f64 / self.count as f64;
+        self.samples.push(time);
+    }
+
+    fn end_round(&mut self) {
+        self.rounds.push(median(mem::take(&mut self.samples)));
+    }
+}
+
+/// The nanoseconds of a call for each way, by round the median of its samples. The ways take turns,
+/// so that what else the machine does meets them alike.
+pub fn times(job: Job, subject: &Subject) -> Vec<Option<Cost>> {
+    let mut ways: Vec<Option<Timed>> = Way::of(job)
         .into_iter()
-        .map(|work| work.map(|(_, _, best)| best))
+        .map(|way| prepare(job, subject, way).map(Timed::new))
+        .collect();
+    for _ in 0..ROUNDS {
+        for _ in 0..SAMPLES {
+            ways.iter_mut().flatten().for_each(Timed::sample);
+        }
+        ways.iter_mut().flatten().for_each(Timed::end_round);
+    }
+    ways.into_iter()
+        .map(|way| way.map(|timed| Cost(timed.rounds)))
         .collect()
 }
 
@@ -68,13 +108,13 @@ pub fn counts() -> bool {
 }
 
 /// The instructions of a call for each way: those of many calls less those of one.
-pub fn instructions(job: Job, index: usize, subject: &Subject) -> Vec<Option<f64>> {
+pub fn instructions(job: Job, index: usize, subject: &Subject) -> Vec<Option<Cost>> {
     let ways = Way::of(job).into_iter().enumerate();
     ways.map(|(at, way)| {
         drop(prepare(job, subject, way)?);
         let many = collected(job, index, at, COUNTED);
         let one = collected(job, index, at, 1);
-        Some((many - one) as f64 / (COUNTED - 1) as f64)
+        Some(Cost(vec![(many - one) as f64 / (COUNTED - 1) as f64]))
     })
     .collect()
 }
@@ -98,4 +138,17 @@ fn collected(job: Job, index: usize, way: usize, count: u64) -> u64 {
     text.lines()
         .find_map(|line| line.split("Collected :").nth(1)?.trim().parse().ok())
         .unwrap_or_else(|| panic!("valgrind tells no count:\n{text}"))
+}
+
+#[cfg(test)]
+mod tests {
+    use super::*;
+
+    #[test]
+    fn a_ratio_is_the_median_of_the_rounds_ratios() {
+        let ours = Cost(vec![10.0, 30.0, 20.0]);
+        let other = Cost(vec![10.0, 10.0, 40.0]);
+        assert_eq!((ours.number(), other.number()), (20.0, 10.0));
+        assert_eq!(ours.ratio(&other), 1.0);
+    }
 }

@@ -1,9 +1,10 @@
 //! What is measured: the jobs, and the rows of each job's table.
 
+use teyolxan_host::assemble::Assembler;
 use teyolxan_host::builtin;
 use teyolxan_host::by_name::Name;
 use teyolxan_host::codec::Answer;
-use teyolxan_host::reference::{self, BENCH_ROOM};
+use teyolxan_host::reference::{self, BENCH_ROOM, LENGTH_MOST};
 
 #[derive(Clone, Copy, Debug, PartialEq, Eq)]
 pub enum Job {
@@ -22,6 +23,16 @@ impl Job {
             Job::Write => "Writing a message",
             Job::Take => "Fetching bits",
             Job::Check => "Checking a table",
+        }
+    }
+
+    /// In front of a row's title.
+    pub fn doing(self) -> &'static str {
+        match self {
+            Job::Read => "reading",
+            Job::Write => "writing",
+            Job::Take => "fetching",
+            Job::Check => "checking",
         }
     }
 
@@ -62,10 +73,46 @@ impl Subject {
     }
 }
 
-/// A message under a built-in table.
+/// The kinds of messages. A run of numbers has no call by name.
+#[derive(Clone, Copy, Debug, PartialEq, Eq)]
+pub enum Kind {
+    Lm,
+    Sam,
+    OctetNumbers,
+    TwoOctetNumbers,
+}
+
+impl Kind {
+    pub fn name(self) -> Option<Name> {
+        match self {
+            Kind::Lm => Some(Name::Lm),
+            Kind::Sam => Some(Name::Sam),
+            Kind::OctetNumbers | Kind::TwoOctetNumbers => None,
+        }
+    }
+
+    fn table(self) -> Vec<u8> {
+        match self {
+            Kind::Lm => builtin::lm(),
+            Kind::Sam => builtin::sam(),
+            Kind::OctetNumbers => run_table(255),
+            Kind::TwoOctetNumbers => run_table(65_535),
+        }
+    }
+}
+
+/// A table of a counted run of numbers from 0 on.
+fn run_table(span: u32) -> Vec<u8> {
+    let mut table = Assembler::new();
+    let number = table.number(0, span);
+    table.counted_run(LENGTH_MOST as u16, number);
+    table.finish()
+}
+
+/// A message with its values.
 pub struct Message {
     pub title: &'static str,
-    pub name: Name,
+    pub kind: Kind,
     pub table: Vec<u8>,
     pub values: Vec<i64>,
     pub octets: Vec<u8>,
@@ -75,12 +122,8 @@ pub struct Message {
 }
 
 impl Message {
-    fn new(title: &'static str, name: Name, values: Vec<i64>) -> Message {
-        let table = match name {
-            Name::Lm => builtin::lm(),
-            Name::Sam => builtin::sam(),
-            Name::Srm => builtin::srm(),
-        };
+    fn new(title: &'static str, kind: Kind, values: Vec<i64>) -> Message {
+        let table = kind.table();
         let (answer, mut octets) = reference::write(&table, &values, 65_535);
         let Answer::Accepted { octets: size, .. } = answer else {
             panic!("{title}: {answer:?}");
@@ -88,7 +131,7 @@ impl Message {
         octets.truncate(size as usize);
         Message {
             title,
-            name,
+            kind,
             table,
             room: BENCH_ROOM.max(values.len()),
             output: BENCH_ROOM.max(octets.len()),
@@ -96,6 +139,17 @@ impl Message {
             octets,
         }
     }
+}
+
+/// An LM like P1 with so many extension elements in its N-Header, of so many octets each.
+fn lm_of_elements(count: i64, length: i64) -> Vec<i64> {
+    let mut values = vec![0, 1, 3, count];
+    for element in 0..count {
+        values.extend([80 + element, length]);
+        values.extend((0..length).map(|at| (element * length + at) % 251));
+    }
+    values.extend([0, 0, 32, 2, 72, 105]);
+    values
 }
 
 /// An LM with so many octets of user data.
@@ -114,16 +168,34 @@ fn sam_of_services() -> Vec<i64> {
     values
 }
 
-fn messages() -> [Message; 6] {
+/// A run of so many numbers below a bound.
+fn run_of(count: i64, bound: i64) -> Vec<i64> {
+    let mut values = vec![count];
+    values.extend((0..count).map(|at| at * 7_919 % bound));
+    values
+}
+
+fn messages() -> [Message; 10] {
+    use Kind::{Lm, OctetNumbers, Sam, TwoOctetNumbers};
+
     let p1 = vec![0, 0, 3, 0, 0, 32, 2, 72, 105];
     let p2 = vec![2, 0, 3, 1, 3, 1, 0, 1, 2, 0];
     let p3 = vec![0, 1, 3, 1, 15, 1, 172, 0, 0, 0, 0];
     [
-        Message::new("P1", Name::Lm, p1),
-        Message::new("P2", Name::Lm, p2),
-        Message::new("P3", Name::Lm, p3),
-        Message::new("LM, 200 octets", Name::Lm, lm_of(200)),
-        Message::new("LM, 16,383 octets", Name::Lm, lm_of(16_383)),
-        Message::new("SAM, 31 services", Name::Sam, sam_of_services()),
+        ("P1", Lm, p1),
+        ("P2", Lm, p2),
+        ("P3", Lm, p3),
+        ("LM, ten elements", Lm, lm_of_elements(10, 20)),
+        ("LM, 200 octets", Lm, lm_of(200)),
+        ("LM, 1,400 octets", Lm, lm_of(1_400)),
+        ("LM, 16,383 octets", Lm, lm_of(16_383)),
+        ("SAM, 31 services", Sam, sam_of_services()),
+        ("4,000 octet numbers", OctetNumbers, run_of(4_000, 251)),
+        (
+            "4,000 two-octet numbers",
+            TwoOctetNumbers,
+            run_of(4_000, 65_521),
+        ),
     ]
+    .map(|(title, kind, values)| Message::new(title, kind, values))
 }

@@ -1,0 +1,228 @@
+//! What was measured, in markdown: a table for each job and unit, and what the times come to.
+
+use crate::calls::Way;
+use crate::measure::Cost;
+use crate::subjects::{Job, Subject};
+
+/// A ratio up to this is close.
+const CLOSE: f64 = 1.1;
+
+/// A ratio of a table: what one of our ways costs, divided by what another costs.
+pub struct Ratio {
+    /// The job and the subject, in words.
+    line: String,
+    ours: Way,
+    other: Way,
+    value: f64,
+}
+
+impl Ratio {
+    /// How our call was given its table.
+    fn form(&self) -> &'static str {
+        match self.ours {
+            Way::OursLent => "lent",
+            _ => "by name",
+        }
+    }
+}
+
+/// The columns of ratios in a job's table, as far as it has the two ways.
+fn ratios(job: Job) -> Vec<(&'static str, Way, Way)> {
+    match job {
+        Job::Read | Job::Write => vec![
+            ("by name / asn1c", Way::Ours, Way::Asn1c),
+            ("by name / Rust", Way::Ours, Way::Rust),
+            ("by name / straight", Way::Ours, Way::Straight),
+            ("lent / asn1c", Way::OursLent, Way::Asn1c),
+            ("lent / Rust", Way::OursLent, Way::RustLent),
+        ],
+        Job::Take | Job::Check => vec![
+            ("ours / asn1c", Way::Ours, Way::Asn1c),
+            ("ours / Rust", Way::Ours, Way::Rust),
+        ],
+    }
+}
+
+/// The cells before the measured ones: their titles, and those of a row.
+fn sizes(job: Job) -> &'static [&'static str] {
+    match job {
+        Job::Read | Job::Write => &["octets", "values"],
+        Job::Take => &[],
+        Job::Check => &["octets"],
+    }
+}
+
+fn sizes_of(subject: &Subject) -> Vec<usize> {
+    match subject {
+        Subject::Message(message) => vec![message.octets.len(), message.values.len()],
+        Subject::Table { table, .. } => vec![table.len()],
+        Subject::Bits(_) => vec![],
+    }
+}
+
+/// A measured number; a small one with a decimal.
+fn shown(number: f64) -> String {
+    if number < 100.0 {
+        format!("{number:.1}")
+    } else {
+        grouped(number.round() as usize)
+    }
+}
+
+/// A number with commas.
+fn grouped(number: usize) -> String {
+    let digits = number.to_string();
+    let mut text = String::new();
+    for (at, digit) in digits.chars().enumerate() {
+        if at > 0 && (digits.len() - at).is_multiple_of(3) {
+            text.push(',');
+        }
+        text.push(digit);
+    }
+    text
+}
+
+/// Where we are behind, a ratio is bold.
+fn shown_ratio(ratio: f64) -> String {
+    if ratio > 1.0 {
+        format!("**{ratio:.2}**")
+    } else {
+        format!("{ratio:.2}")
+    }
+}
+
+/// A cell, or the mark of one that a line does not have.
+fn cell(number: Option<f64>, shown: impl Fn(f64) -> String) -> String {
+    number.map_or("-".to_string(), shown)
+}
+
+/// Our cost divided by the other's, where a line has both.
+fn ratio_of(costs: &[Option<Cost>], ours: usize, other: usize) -> Option<f64> {
+    Some(costs[ours].as_ref()?.ratio(costs[other].as_ref()?))
+}
+
+fn print_heading(job: Job, unit: &str, titles: &[&str]) {
+    println!("\n{}, {unit}:\n", job.title());
+    println!("| {} |", titles.join(" | "));
+    println!("|---|{}", "--:|".repeat(titles.len() - 1));
+}
+
+/// Prints a job's table, and gives its ratios; `row` gives a line's cost for each of the ways.
+pub fn print_table(
+    job: Job,
+    unit: &str,
+    row: impl Fn(Job, usize, &Subject) -> Vec<Option<Cost>>,
+) -> Vec<Ratio> {
+    let ways = Way::of(job);
+    let at = |way: Way| ways.iter().position(|&other| other == way);
+    let columns: Vec<(&str, usize, usize)> = ratios(job)
+        .into_iter()
+        .filter_map(|(title, ours, other)| Some((title, at(ours)?, at(other)?)))
+        .collect();
+
+    let mut titles = vec![""];
+    titles.extend(sizes(job));
+    titles.extend(ways.iter().map(|way| way.title(job)));
+    titles.extend(columns.iter().map(|&(title, _, _)| title));
+    print_heading(job, unit, &titles);
+    let mut all = Vec::new();
+    for (index, subject) in job.subjects().iter().enumerate() {
+        let costs = row(job, index, subject);
+        let mut cells = vec![subject.title()];
+        cells.extend(sizes_of(subject).into_iter().map(grouped));
+        let numbers = costs.iter().map(|cost| cost.as_ref().map(Cost::number));
+        cells.extend(numbers.map(|number| cell(number, shown)));
+        for &(_, ours, other) in &columns {
+            let ratio = ratio_of(&costs, ours, other);
+            cells.push(cell(ratio, shown_ratio));
+            all.extend(ratio.map(|value| Ratio {
+                line: format!("{} {}", job.doing(), subject.title()),
+                ours: ways[ours],
+                other: ways[other],
+                value,
+            }));
+        }
+        println!("| {} |", cells.join(" | "));
+    }
+    all
+}
+
+/// What the times of reading and writing come to.
+pub fn summary(times: &[Ratio]) -> String {
+    format!("{}{}", beside_rust(times), behind_asn1c(times))
+}
+
+fn beside_rust(times: &[Ratio]) -> String {
+    let by_name = |ratio: &&Ratio| (ratio.ours, ratio.other) == (Way::Ours, Way::Rust);
+    let mut ratios: Vec<&Ratio> = times.iter().filter(by_name).collect();
+    ratios.sort_by(|left, right| left.value.total_cmp(&right.value));
+    let close = ratios.partition_point(|ratio| ratio.value <= CLOSE);
+    let largest = ratios.last().expect("calls by name are timed");
+    format!(
+        "By name / Rust in time: {} lines of reading and writing, {close} of them at most {CLOSE}, \
+         the largest {:.2} ({}).",
+        ratios.len(),
+        largest.value,
+        largest.line,
+    )
+}
+
+/// Nothing where asn1c's code is not linked.
+fn behind_asn1c(times: &[Ratio]) -> String {
+    let mut ratios: Vec<&Ratio> = times.iter().collect();
+    ratios.retain(|ratio| ratio.other == Way::Asn1c);
+    if ratios.is_empty() {
+        return String::new();
+    }
+    ratios.retain(|ratio| ratio.value > 1.0);
+    let lines: Vec<String> = ratios
+        .chunk_by(|left, right| left.line == right.line)
+        .map(|ratios| {
+            let ways: Vec<&str> = ratios.iter().map(|ratio| ratio.form()).collect();
+            format!("{} ({})", ratios[0].line, ways.join(", "))
+        })
+        .collect();
+    if lines.is_empty() {
+        return " Behind asn1c: none.".to_string();
+    }
+    format!(" Behind asn1c: {}.", lines.join("; "))
+}
+
+#[cfg(test)]
+mod tests {
+    use super::*;
+
+    fn ratio(line: &str, ours: Way, other: Way, value: f64) -> Ratio {
+        Ratio {
+            line: line.to_string(),
+            ours,
+            other,
+            value,
+        }
+    }
+
+    #[test]
+    fn the_summary_counts_lines_and_names_those_behind() {
+        let mut times = vec![
+            ratio("reading P1", Way::Ours, Way::Rust, 1.1),
+            ratio("reading P1", Way::OursLent, Way::RustLent, 9.0),
+            ratio("writing P1", Way::Ours, Way::Rust, 1.5),
+            ratio("writing P2", Way::Ours, Way::Rust, 0.5),
+        ];
+        let beside_rust = "By name / Rust in time: 3 lines of reading and writing, \
+                           2 of them at most 1.1, the largest 1.50 (writing P1).";
+        assert_eq!(summary(&times), beside_rust);
+
+        times.push(ratio("reading P1", Way::Ours, Way::Asn1c, 1.0));
+        let none = format!("{beside_rust} Behind asn1c: none.");
+        assert_eq!(summary(&times), none);
+
+        times.extend([
+            ratio("reading P1", Way::OursLent, Way::Asn1c, 1.01),
+            ratio("writing P1", Way::Ours, Way::Asn1c, 1.2),
+            ratio("writing P1", Way::OursLent, Way::Asn1c, 2.0),
+        ]);
+        let behind = "Behind asn1c: reading P1 (lent); writing P1 (by name, lent).";
+        assert_eq!(summary(&times), format!("{beside_rust} {behind}"));
+    }
+}
