@@ -2,7 +2,7 @@
 // caller that has one of them lends the other empty: so that one engine serves both, and one that keeps nothing.
 ghost use mathlib.Core.Path.{_≡_};
 ghost use mathlib.Core.List.{_++_};
-ghost use Prim.Native.Nat.{_+_, _-_, _*_, _/_, _<_, _≤_, min};
+ghost use Prim.Native.Nat.{_+_, _-_, _*_, _/_, _<_, _≤_};
 ghost use lib.IntN.{pos};
 ghost use lib.ListN.{length, getD, set, take, drop, replicate};
 ghost use lib.Seq.{sets};
@@ -140,53 +140,15 @@ pub fn value_at(values: &[i64], octets: &[u8], at: usize) -> i64
     value_in(octets, at - values.len())
 }
 
-// Zeroes the values from an index up to another.
-fn clear_value_block(values: &mut [i64], from: usize, to: usize)
-    requires { ⌜ (from ≤ to) × (to ≤ length (now values)) ⌝ }
-    ensures { λ _. ⌜ now (values .exit) ≡ take from (now (values .entry)) ++ (replicate (to - from) (pos 0) ++ drop to (now (values .entry))) ⌝ }
-{
-    let mut index = from;
-    while index < to {
-        values[index] = 0;
-        index += 1;
-    }
-}
-
-// Zeroes the octets from an index up to another.
-fn clear_octet_block(octets: &mut [u8], from: usize, to: usize)
-    requires { ⌜ (from ≤ to) × (to ≤ length (now octets)) ⌝ }
-    ensures { λ _. ⌜ now (octets .exit) ≡ take from (now (octets .entry)) ++ (replicate (to - from) 0 ++ drop to (now (octets .entry))) ⌝ }
-{
-    let mut at = from;
-    while at < to {
-        octets[at] = 0;
-        at += 1;
-    }
-}
-
-// Where the block that starts at an index ends: so many further on, or at the end of all. Zeroing goes block by block since a
-// memset of more than 2 KiB counts an instruction for each octet; blocks of a fixed size the compiler joins into one again.
-fn block_end(start: usize, end: usize, most: usize) -> usize
-    requires { ⌜ start ≤ end ⌝ }
-    ensures { λ r. ⌜ r ≡ min (start + most) end ⌝ }
-{
-    if end - start > most {
-        start + most
-    } else {
-        end
-    }
-}
-
 // Zeroes every value from an index on.
 pub fn clear_values(values: &mut [i64], from: usize)
     requires { ⌜ from ≤ length (now values) ⌝ }
     ensures { λ _. ⌜ now (values .exit) ≡ take from (now (values .entry)) ++ replicate (length (now (values .entry)) - from) (pos 0) ⌝ }
 {
-    let mut start = from;
-    while start < values.len() {
-        let end = block_end(start, values.len(), 224);
-        clear_value_block(values, start, end);
-        start = end;
+    let mut index = from;
+    while index < values.len() {
+        values[index] = 0;
+        index += 1;
     }
 }
 
@@ -195,10 +157,9 @@ pub fn clear_octets(octets: &mut [u8], from: usize)
     requires { ⌜ from ≤ length (now octets) ⌝ }
     ensures { λ _. ⌜ now (octets .exit) ≡ take from (now (octets .entry)) ++ replicate (length (now (octets .entry)) - from) 0 ⌝ }
 {
-    let mut start = from;
-    while start < octets.len() {
-        let end = block_end(start, octets.len(), 1792);
-        clear_octet_block(octets, start, end);
-        start = end;
+    let mut at = from;
+    while at < octets.len() {
+        octets[at] = 0;
+        at += 1;
     }
 }
