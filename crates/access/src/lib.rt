@@ -1,5 +1,5 @@
-// Bits of a message fetched as a number, up to 32 of them, and up to 32 stored. Both take whole octets, one or five at a time,
-// and no step for each bit.
+// Bits of a message fetched as a number, up to 32 of them, and up to 32 stored. Both take whole octets, one, two or five at a
+// time, and no step for each bit.
 use bits::BitPlace;
 use bits::Fetched;
 use bits::OctetSize;
@@ -66,7 +66,38 @@ pub fn octet_at(message: &[u8], at: usize, into: u32) -> u64
     ((256 * first + second) >> (8 - into)) % 256
 }
 
-// Stores the k bits of v from a place on, in the five octets that begin with the place's; every other bit stays.
+// The last k bits of a message, all of them in its last octet.
+pub fn last_bits(message: &[u8], k: u32) -> u64
+    requires { ⌜ (0 < length (now message)) × (k ≤ 8) ⌝ }
+    ensures { λ r. ⌜ r ≡ numberOf (drop (8 * length (now (message .entry)) - k) (unpack (now (message .entry)))) ⌝ }
+{
+    let last = window::octet_inside(message, message.len() - 1);
+    last % window::power(k)
+}
+
+// Replaces k bits of an octet, with so many bits below them, by those of v; every other bit stays.
+pub fn replace_in_octet(output: &mut [u8], at: usize, below: u32, k: u32, v: u32)
+    requires { ⌜ (k + below ≤ 8) × (v < 2 ^ k) × (at < length (now output)) ⌝ }
+    ensures { λ _. ⌜ unpack (now (output .exit)) ≡ overwritten (unpack (now (output .entry))) (8 * at + (8 - below - k)) (bitsOf k v) ⌝ }
+{
+    let octet = window::octet_inside(output, at);
+    output[at] = (window::replace(octet, below, k, v) % 256) as u8;
+}
+
+// Replaces k bits of an octet and the one after it, with so many bits below them, by those of v; every other bit stays.
+fn replace_in_pair(output: &mut [u8], at: usize, below: u32, k: u32, v: u32)
+    requires { ⌜ (k + below ≤ 16) × (v < 2 ^ k) × (at + 1 < length (now output)) ⌝ }
+    ensures { λ _. ⌜ unpack (now (output .exit)) ≡ overwritten (unpack (now (output .entry))) (8 * at + (16 - below - k)) (bitsOf k v) ⌝ }
+{
+    let first = window::octet_inside(output, at);
+    let second = window::octet_inside(output, at + 1);
+    let pair = window::replace(256 * first + second, below, k, v);
+    output[at] = (pair / 256 % 256) as u8;
+    output[at + 1] = (pair % 256) as u8;
+}
+
+// Stores the k bits of v from a place on, in two octets where they lie in two, else in the five that begin with the place's;
+// every other bit stays.
 fn store_wide(output: &mut [u8], place: BitPlace, k: u32, v: u32) -> Stored
     requires { ⌜ (length (now output) ≤ mostOctets) × (k ≤ 32) × (v < 2 ^ k) ⌝ }
     ensures { λ r. ⌜ (r ≡ stored (now (output .entry)) (place .0) k) × (unpack (now (output .exit)) ≡ overwritten (unpack (now (output .entry))) (place .0) (bitsOf k v)) ⌝ }
@@ -75,15 +106,23 @@ fn store_wide(output: &mut [u8], place: BitPlace, k: u32, v: u32) -> Stored
         return Stored::Full;
     }
     let from = place.0;
+    let next = BitPlace(from + k as usize);
     let first = BitPlace::octets_before(place);
     let at = first.0;
+    let end = BitPlace::bits_into_octet(place) + k;
+    if end <= 16 {
+        if at + 1 < output.len() {
+            replace_in_pair(output, at, 16 - end, k, v);
+            return Stored::Next(next);
+        }
+    }
     let window = window::window(output, at);
     window::put_window(
         output,
         at,
         window::replace(window, bits_behind(place, k), k, v),
     );
-    Stored::Next(BitPlace(from + k as usize))
+    Stored::Next(next)
 }
 
 // Stores the k bits of v from a place on; every other bit stays. One load and one store where they lie in one octet.
@@ -101,8 +140,7 @@ pub fn store(output: &mut [u8], place: BitPlace, k: u32, v: u32) -> Stored
     if 8 < end {
         return store_wide(output, place, k, v);
     }
-    let octet = window::octet_inside(output, at);
-    output[at] = (window::replace(octet, 8 - end, k, v) % 256) as u8;
+    replace_in_octet(output, at, 8 - end, k, v);
     let next = from + k as usize;
     Stored::Next(BitPlace(next))
 }
@@ -117,9 +155,5 @@ pub fn put_octet(output: &mut [u8], at: usize, into: u32, octet: u8)
         output[at] = octet;
         return;
     }
-    let first = window::octet_inside(output, at);
-    let second = window::octet_inside(output, at + 1);
-    let pair = window::replace(256 * first + second, 8 - into, 8, octet as u32);
-    output[at] = (pair / 256 % 256) as u8;
-    output[at + 1] = (pair % 256) as u8;
+    replace_in_pair(output, at, 8 - into, 8, octet as u32);
 }

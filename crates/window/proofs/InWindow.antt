@@ -8,9 +8,9 @@ use mathlib.Core.List.{List, [], _∷_, _++_, append-nil}
 use native.Mathlib.Omega.{arith}
 use native.Mathlib.Decide.{decLt}
 use native.Mathlib.Nat.{div-add-mod', div-div-eq-div-mul}
-use lib.ListN.{length, getD, take, drop, set, replicate, length-append, length-take, length-set, List·getD-append, List·getD-eq-default}
+use lib.ListN.{length, getD, take, drop, set, replicate, length-append, length-take, length-drop, length-set, List·getD-append, List·getD-eq-default}
 use lib.Pow.{pow-add}
-use lib.Seq.{sets, set-getD, set-out, take-at, take-set-lt, take-set-le, length-take-le, getD-append-add, drop-append-add}
+use lib.Seq.{sets, set-getD, set-out, take-all, take-at, take-set-lt, take-set-le, length-take-le, getD-append-add, drop-append-add}
 use Rattle.bits.specs.Bits.{numberOf, bitsOf, unpack}
 use Rattle.window.specs.Window.{windowAt, withWindow, placed}
 use Rattle.bits.proofs.Bits.{length-bitsOf, numberOf-bitsOf, bitsOf-numberOf, numberOf-append, bitsOf-append, length-unpack, unpack-append, unpack-take}
@@ -231,6 +231,15 @@ module _ (m : List ℕ) (octets : (i : ℕ) → getD m i 0 < 256) (p k : ℕ) (n
 
 -- ---- eight bits, s bits into the octet at i
 
+-- n bits further on they are cut out of the window there
+pub number-in-five : (m : List ℕ) → ((j : ℕ) → getD m j 0 < 256) → (i s n t : ℕ) → s < 8 → n + t ≡ 24 → 8 * i + s + n + 8 ≤ 8 * length m
+    → numberOf (take 8 (drop (8 * i + s + n) (unpack m))) ≡ windowAt m i / 2 ^ (8 - s) / 2 ^ t % 256
+number-in-five m octets i s n t h e fits =
+    let place : 8 * i + (s + n) ≡ 8 * i + s + n = omega arith in
+    (rw place at (number-window m octets i (s + n) 8 (8 - s + t) (omega arith) (omega arith)))
+    ∙ ap (λ (u : ℕ). windowAt m i / u % 256) (pow-add 2 (8 - s) t)
+    ∙ ap (λ (u : ℕ). u % 256) (sym (div-div-eq-div-mul (windowAt m i) (2 ^ (8 - s)) (2 ^ t)))
+
 -- they are cut out of it and the one after it
 pub number-in-pair : (m : List ℕ) → ((j : ℕ) → getD m j 0 < 256) → (i s : ℕ) → s < 8 → 8 * i + s + 8 ≤ 8 * length m
     → numberOf (take 8 (drop (8 * i + s) (unpack m))) ≡ (256 * getD m i 0 + getD m (i + 1) 0) / 2 ^ (8 - s) % 256
@@ -246,54 +255,65 @@ number-in-pair m octets i s h fits =
     ∙ ap (λ (u : ℕ). u % 256) (sym (div-div-eq-div-mul (windowAt m i) 16777216 (2 ^ (8 - s))))
     ∙ ap (λ (u : ℕ). u / 2 ^ (8 - s) % 256) top
 
+-- ---- the last k bits, all of them in the last octet
+
+-- they are its lowest
+pub number-last : (m : List ℕ) → ((j : ℕ) → getD m j 0 < 256) → (k : ℕ) → k ≤ 8 → 0 < length m
+    → numberOf (drop (8 * length m - k) (unpack m)) ≡ getD m (length m - 1) 0 % 2 ^ k
+number-last m octets k narrow some =
+    let i = length m - 1 in
+    let b = octets (i + 1) in
+    let c = octets (i + 2) in
+    let d = octets (i + 3) in
+    let f = octets (i + 4) in
+    let top : windowAt m i / 4294967296 ≡ getD m i 0 = omega arith in
+    let place : 8 * i + (8 - k) ≡ 8 * length m - k = omega arith in
+    let rest : length (drop (8 * length m - k) (unpack m)) ≤ k = rw (length-drop, length-unpack) (omega arith) in
+    ap numberOf (sym (take-all k (drop (8 * length m - k) (unpack m)) rest))
+    ∙ (rw place at (number-window m octets i (8 - k) k 32 (omega arith) (omega arith)))
+    ∙ ap (λ (u : ℕ). u % 2 ^ k) top
+
+-- ---- k bits of two octets or of one, s after the first and with t behind them
+
 -- two octets are the bits of their number
 unpack-pair : (a b : ℕ) → a < 256 → b < 256 → unpack (a ∷ b ∷ []) ≡ bitsOf 16 (a * 256 + b)
 unfolding unpack
 unpack-pair a b ha hb = ap (bitsOf 8 a ++_) (append-nil (bitsOf 8 b)) ∙ sym (bitsOf-append 8 8 a b ha hb)
 
 -- the two octets with the bits of v in their place, stored, replace them and nothing else
-module _ (m : List ℕ) (octets : (j : ℕ) → getD m j 0 < 256) (i s v : ℕ) (h : s < 8) (inside : i + 1 < length m) (hv : v < 256) where
+module _ (m : List ℕ) (octets : (j : ℕ) → getD m j 0 < 256) (i s k t v : ℕ) (all : s + k + t ≡ 16) (inside : i + 1 < length m) (hv : v < 2 ^ k) where
   abbrev pair : ℕ
   pair = 256 * getD m i 0 + getD m (i + 1) 0
 
   abbrev new-pair : ℕ
-  new-pair = placed pair (8 - s) 8 v
+  new-pair = placed pair t k v
 
-  pub put-in-pair : unpack (set (set m i (new-pair / 256 % 256)) (i + 1) (new-pair % 256)) ≡ spliced (unpack m) (8 * i + s) (bitsOf 8 v)
+  pub put-in-pair : unpack (set (set m i (new-pair / 256 % 256)) (i + 1) (new-pair % 256)) ≡ spliced (unpack m) (8 * i + s) (bitsOf k v)
   put-in-pair =
-      let all : s + 8 + (8 - s) ≡ 16 = omega arith in
       let o₀ = octets i in
       let o₁ = octets (i + 1) in
       let next : i + 1 ≡ suc i = omega arith in
       let comm : getD m i 0 * 256 + getD m (i + 1) 0 ≡ pair = omega arith in
-      let within : pair < 2 ^ (s + 8 + (8 - s)) = rw all (omega arith) in
-      let lt : new-pair < 2 ^ 16 = rw all at (placed-lt s 8 (8 - s) pair within v hv) in
+      let within : pair < 2 ^ (s + k + t) = rw all (omega arith) in
+      let lt : new-pair < 2 ^ 16 = rw all at (placed-lt s k t pair within v hv) in
       let digits : new-pair / 256 % 256 * 256 + new-pair % 256 ≡ new-pair = omega arith in
       let was = unpack-pair (getD m i 0) (getD m (i + 1) 0) o₀ o₁ ∙ ap (bitsOf 16) comm in
       let is = unpack-pair (new-pair / 256 % 256) (new-pair % 256) (omega arith) (omega arith) ∙ ap (bitsOf 16) digits in
       let back : sets m i (getD m i 0 ∷ getD m (i + 1) 0 ∷ []) ≡ m = rw (← next, set-getD m i 0) (set-getD m (i + 1) 0) in
       ap (λ (j : ℕ). unpack (set (set m i (new-pair / 256 % 256)) j (new-pair % 256))) next
-      ∙ sets-spliced m i (getD m i 0 ∷ getD m (i + 1) 0 ∷ []) (new-pair / 256 % 256 ∷ new-pair % 256 ∷ []) s (bitsOf 8 v) back refl
+      ∙ sets-spliced m i (getD m i 0 ∷ getD m (i + 1) 0 ∷ []) (new-pair / 256 % 256 ∷ new-pair % 256 ∷ []) s (bitsOf k v) back refl
       (omega arith) (rw length-bitsOf (omega arith))
-      (is ∙ (rw all at (bitsOf-placed s 8 (8 - s) pair within v hv)) ∙ ap (λ b. spliced b s (bitsOf 8 v)) (sym was))
-
--- ---- bits that lie in one octet
+      (is ∙ (rw all at (bitsOf-placed s k t pair within v hv)) ∙ ap (λ b. spliced b s (bitsOf k v)) (sym was))
 
 -- the octet with the bits of v in their place, stored, replaces them and nothing else
-pub put-in-octet : (m : List ℕ) → ((j : ℕ) → getD m j 0 < 256) → (p k : ℕ) → p % 8 + k ≤ 8 → p + k ≤ 8 * length m → p / 8 < length m → (v : ℕ) → v < 2 ^ k
-    → unpack (set m (p / 8) (placed (getD m (p / 8) 0) (8 - (p % 8 + k)) k v % 256)) ≡ spliced (unpack m) p (bitsOf k v)
+pub put-in-octet : (m : List ℕ) → ((j : ℕ) → getD m j 0 < 256) → (i s k t v : ℕ) → s + k + t ≡ 8 → i < length m → v < 2 ^ k
+    → unpack (set m i (placed (getD m i 0) t k v % 256)) ≡ spliced (unpack m) (8 * i + s) (bitsOf k v)
 unfolding unpack
-put-in-octet m octets p k narrow fits inside v hv =
-    let i = p / 8 in
-    let s = p % 8 in
-    let t = 8 - (s + k) in
+put-in-octet m octets i s k t v all inside hv =
     let o = getD m i 0 in
-    let all : s + k + t ≡ 8 = omega arith in
-    let place : 8 * i + s ≡ p = omega arith in
     let within : o < 2 ^ (s + k + t) = rw all (octets i) in
     let lt : placed o t k v < 256 = rw all at (placed-lt s k t o within v hv) in
     let same : placed o t k v % 256 ≡ placed o t k v = omega arith in
     let bits = append-nil (bitsOf 8 (placed o t k v)) ∙ (rw all at (bitsOf-placed s k t o within v hv)) ∙ ap (λ b. spliced b s (bitsOf k v)) (sym (append-nil (bitsOf 8 o))) in
     rw same
-    (sets-spliced m i (o ∷ []) (placed o t k v ∷ []) s (bitsOf k v) (set-getD m i 0) refl (omega arith) (rw length-bitsOf (omega arith)) bits
-    ∙ ap (λ (q : ℕ). spliced (unpack m) q (bitsOf k v)) place)
+    (sets-spliced m i (o ∷ []) (placed o t k v ∷ []) s (bitsOf k v) (set-getD m i 0) refl (omega arith) (rw length-bitsOf (omega arith)) bits)

@@ -48,7 +48,7 @@ fn four_inside(s: &[u8], i: usize) -> u64
 }
 
 // Five octets from i on, all of them there.
-fn window_inside(s: &[u8], i: usize) -> u64
+pub fn window_inside(s: &[u8], i: usize) -> u64
     requires { ⌜ (i ≤ mostOctets) × (i + 4 < length (now s)) ⌝ }
     ensures { λ r. ⌜ (r ≡ windowAt (now (s .entry)) i) × (r < 2 ^ 40) ⌝ }
 {

@@ -1,30 +1,22 @@
--- `access::store` meets its contract. The octet that the bits lie in, with them replaced, is put back (`put-in-octet`).
+-- `access::store` meets its contract. Bits that lie in one octet are replaced there.
 use borrow.Author.Needs.{needs}
 use native.Mathlib.Omega.{arith}
-use Prim.Native.Nat.{ℕ, _+_, _*_, _≤_, _<_}
-use lib.ListN.{length, getD}
+use mathlib.Core.Path.{_≡_, sym}
+use Prim.Native.Nat.{_+_, _-_, _*_}
 use denote.Ref.{now}
-use Rattle.bits.proofs.Access.{stored-spliced}
-use Rattle.window.proofs.InWindow.{put-in-octet}
+use Rattle.bits.proofs.Access.{stored-inside}
 use Rattle.access.proofs.store.Statement.{statement}
 use Rattle.access.proofs.store.Tie as tie
 
 returns-3 : tie.Need-returns-3
 returns-3 c =
-    let into = c .before .before .before .before in
-    let known = into .before .before .before in
-    let a = known .before .args in
-    let m = now (a .output) in
-    let octets : (i : ℕ) → getD m i 0 < 256 = λ i. omega (arith, known .slice-known .given i) in
-    let fits : a .place .0 + a .k ≤ 8 * length m = omega arith in
-    rw (
-      c .replace .ensures,
-      c .before .octet-inside .ensures .0,
-      into .bits-into-octet .ensures,
-      into .before .before .octets-before .ensures,
-    )
-    (stored-spliced m (a .place .0) (a .k) (a .v) fits
-    (put-in-octet m octets (a .place .0) (a .k) (omega arith) fits (omega arith) (a .v) (known .before .pre .2)))
+    let replaced = c .before .before in
+    let into = replaced .before .before .before in
+    let first = into .before .before in
+    let a = first .before .before .args in
+    let end = into .bits-into-octet .result + a .k in
+    let place : 8 * first .octets-before .result .0 + (8 - (8 - end) - a .k) ≡ a .place .0 = omega arith in
+    (sym (stored-inside (now (a .output)) (a .place .0) (a .k) (omega arith)), rw (← place) (replaced .replace-in-octet .ensures))
 
 pub store-spec : {M : Type 1} → statement M
 store-spec =
@@ -40,9 +32,6 @@ store-spec =
     (λ c. search needs)
     (λ c. search needs)
     (λ c κs. search needs)
-    (λ c κs. search needs)
-    (λ c. search needs)
-    (λ c. search needs)
     (λ c. search needs)
     (λ c. search needs)
     returns-3)
