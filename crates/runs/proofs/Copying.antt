@@ -3,49 +3,82 @@
 use Prim.Native.Nat.{ℕ, zero, suc, _+_, _-_, _*_, _≤_, _<_}
 use mathlib.Core.Bool.{Bool}
 use mathlib.Core.Path.{_≡_, refl, sym, ap, _∙_}
-use mathlib.Core.List.{List}
+use mathlib.Core.List.{List, _∷_, _++_}
 use native.Mathlib.Omega.{arith}
+use native.Mathlib.Nat.{zero-add, suc-add}
 use lib.IntN.{ℤ, pos}
-use lib.ListN.{length, take, drop}
+use lib.ListN.{length, take, drop, length-map}
 use lib.Seq.{drop-drop}
+use mir.Syntax.{w64}
+use mir.Val.{toZ}
+use mir.Facts.{toZ-pos}
 use Rattle.bits.specs.Bits.{numberOf, pack}
+use Rattle.bits.proofs.Bits.{length-pack}
 use Rattle.values.specs.Values.{storeAll}
-use Rattle.values.proofs.Stores.{storeAll-out}
+use Rattle.values.proofs.Stores.{storeAll-append, storeAll-out}
 use Rattle.runs.specs.Runs.{octetValues}
 
+-- the value of the octet at a place of bits
+abbrev pub octet : List Bool → ℕ → ℤ
+octet b p = pos (numberOf (take 8 (drop p b)))
+
+-- as a number that the code reads, from the place as it has that
+pub octet-is : (b : List Bool) (p q r : ℕ) → r ≡ numberOf (take 8 (drop p b)) → r < 256 → p ≡ q → toZ w64 r ≡ octet b q
+octet-is b p q r e small same = toZ-pos w64 {n = r} (omega arith) ∙ ap pos e ∙ ap (octet b) same
+
+-- octets, and those after them
+octetValues-append : (n more : ℕ) (b : List Bool) → octetValues (n + more) b ≡ octetValues n b ++ octetValues more (drop (8 * n) b)
+unfolding pack
+octetValues-append zero more b = ap (λ (k : ℕ). octetValues k b) (zero-add more)
+octetValues-append (suc n) more b =
+    let e : 8 + 8 * n ≡ 8 * suc n = omega arith in
+    ap (λ (k : ℕ). octetValues k b) (suc-add n more)
+    ∙ ap (octet b 0 ∷_) (octetValues-append n more (drop 8 b) ∙ ap (λ d. octetValues n (drop 8 b) ++ octetValues more d) (drop-drop (8 * n) 8 b ∙ ap (λ (k : ℕ). drop k b) e))
+
 -- the bits b from start on are kept by put in a slice from the index at on
-module _ {A : Type 0} (put : List A → ℕ → ℤ → List A) (b : List Bool) (start at count : ℕ) (l₀ : List A) where
-  abbrev left : ℕ → List ℤ
-  left done = octetValues (count - done) (drop (start + 8 * done) b)
+module _ {A : Type 0} (put : List A → ℕ → ℤ → List A) (b : List Bool) (start at : ℕ) where
+  -- what the slice then holds
+  abbrev pub kept : ℕ → List A → List A
+  kept count l = storeAll put l at (octetValues count (drop start b))
 
-  -- keeping what is left of the run in what stands now is keeping the whole run in what was lent
-  pub record Copying (l : List A) (done : ℕ) : Type 0 where
-    pub within : done ≤ count
-    pub same : length l ≡ length l₀
-    pub rest : storeAll put l (at + done) (left done) ≡ storeAll put l₀ at (octetValues count (drop start b))
-
-  pub copying-none : Copying l₀ 0
-  copying-none =
-      let e : at + 0 ≡ at = omega arith in
-      let f : start + 8 * 0 ≡ start = omega arith in
-      let g : count - 0 ≡ count = omega arith in
-      record { within = omega arith; same = refl; rest = rw (e, f, g) refl }
-
-  pub copying-one : (l : List A) (done : ℕ) (v : ℤ) → Copying l done → done < count → v ≡ pos (numberOf (take 8 (drop (start + 8 * done) b)))
-      → length (put l (at + done) v) ≡ length l → Copying (put l (at + done) v) (done + 1)
+  pub kept-none : (l : List A) → l ≡ kept 0 l
   unfolding pack
-  copying-one l done v h more e same =
-      let n : count - done ≡ suc (count - (done + 1)) = omega arith in
-      let i : at + (done + 1) ≡ suc (at + done) = omega arith in
-      let p : start + 8 * (done + 1) ≡ start + 8 * done + 8 = omega arith in
-      let d : drop (start + 8 * (done + 1)) b ≡ drop 8 (drop (start + 8 * done) b) = ap (λ (k : ℕ). drop k b) p ∙ sym (drop-drop 8 (start + 8 * done) b) in
-      record { within = omega arith; same = same ∙ h .same; rest = rw (i, d, e) (rw n at (h .rest)) }
+  kept-none l = refl
 
-  pub copying-done : (l : List A) (done : ℕ) → Copying l done → (done < count → (j : ℕ) (v : ℤ) → at + done ≤ j → put l j v ≡ l)
-      → l ≡ storeAll put l₀ at (octetValues count (drop start b))
+  pub kept-four : (l : List A) (v₀ v₁ v₂ v₃ : ℤ) → v₀ ≡ octet b start → v₁ ≡ octet b (start + 8) → v₂ ≡ octet b (start + 16) → v₃ ≡ octet b (start + 24)
+      → put (put (put (put l at v₀) (at + 1) v₁) (at + 2) v₂) (at + 3) v₃ ≡ kept 4 l
   unfolding pack
-  copying-done l done h out = by-left (count - done) refl
-    where
-      by-left : (n : ℕ) → count - done ≡ n → l ≡ storeAll put l₀ at (octetValues count (drop start b))
-      by-left zero e = rw e at (h .rest)
-      by-left (suc n) e = sym (storeAll-out put l (at + done) (out (omega arith)) (left done)) ∙ h .rest
+  kept-four l v₀ v₁ v₂ v₃ e₀ e₁ e₂ e₃ =
+      let i₁ : at + 1 ≡ suc at = omega arith in
+      let i₂ : at + 2 ≡ suc (suc at) = omega arith in
+      let i₃ : at + 3 ≡ suc (suc (suc at)) = omega arith in
+      let p₂ : start + 16 ≡ start + 8 + 8 = omega arith in
+      let p₃ : start + 24 ≡ start + 8 + 8 + 8 = omega arith in
+      rw (e₀, e₁, e₂, e₃, i₁, i₂, i₃, p₂, p₃) (simp drop-drop)
+
+  -- l holds the first done of those that are kept in what was lent
+  module _ (lent l : List A) (done : ℕ) (so-far : l ≡ kept done lent) where
+    -- n more are kept in it, up to m, from the place p on
+    pub kept-more : (n m p : ℕ) (l′ : List A) → done + n ≡ m → p ≡ start + 8 * done → l′ ≡ storeAll put l (at + done) (octetValues n (drop p b)) → l′ ≡ kept m lent
+    kept-more n m p l′ all place e =
+        let d = drop start b in
+        let first : length (octetValues done d) ≡ done = length-map (pack done d) pos ∙ length-pack done d in
+        let whole : kept (done + n) lent ≡ storeAll put (kept done lent) (at + done) (octetValues n (drop (8 * done) d)) =
+        ap (storeAll put lent at) (octetValues-append done n d)
+        ∙ storeAll-append put (octetValues done d) (octetValues n (drop (8 * done) d)) lent at
+        ∙ ap (λ (k : ℕ). storeAll put (kept done lent) (at + k) (octetValues n (drop (8 * done) d))) first in
+        rw (e, so-far, place, ← all, ← drop-drop (8 * done) start b) (sym whole)
+
+    pub kept-one : (v : ℤ) → v ≡ octet b (start + 8 * done) → put l (at + done) v ≡ kept (done + 1) lent
+    unfolding pack
+    kept-one v e = kept-more 1 (done + 1) (start + 8 * done) (put l (at + done) v) refl refl (ap (put l (at + done)) e)
+
+    -- these are all of them, or there are no places for the others
+    pub kept-all : (count : ℕ) → done ≤ count → (done < count → (j : ℕ) (v : ℤ) → at + done ≤ j → put l j v ≡ l) → l ≡ kept count lent
+    kept-all count within out = rest (count - done) refl
+      where
+        rest : (n : ℕ) → count - done ≡ n → l ≡ kept count lent
+        rest zero e = so-far ∙ ap (λ (k : ℕ). kept k lent) (omega arith)
+        rest (suc n) e =
+            kept-more (suc n) count (start + 8 * done) l (omega arith) refl
+            (sym (storeAll-out put l (at + done) (out (omega arith)) (octetValues (suc n) (drop (start + 8 * done) b))))

@@ -26,13 +26,48 @@ pub fn fitting(length: usize, at: usize, count: usize) -> usize
     count
 }
 
+// Keeps four octets that begin so many bits into an octet of the message as numbers. Where that is none, each is stored before
+// the next is loaded: so the compiler leaves them four loads and four stores, which take less time than its steps from octets to
+// numbers. Otherwise they are cut out of the five octets that they lie in, which one shift serves.
+fn read_four(message: &[u8], from: usize, into: u32, values: &mut [i64], at: usize)
+    requires { ⌜ (into < 8) × (8 * from + into + 32 ≤ 8 * length (now message)) × (length (now message) ≤ mostOctets) × (at + 4 ≤ length (now values)) ⌝ }
+    ensures { λ _. ⌜ now (values .exit) ≡ storeAll set (now (values .entry)) at (octetValues 4 (drop (8 * from + into) (unpack (now (message .entry))))) ⌝ }
+{
+    if into == 0 {
+        values[at] = access::octet_at(message, from, into) as i64;
+        values[at + 1] = access::octet_at(message, from + 1, into) as i64;
+        values[at + 2] = access::octet_at(message, from + 2, into) as i64;
+        values[at + 3] = access::octet_at(message, from + 3, into) as i64;
+        return;
+    }
+    let window = window::window_inside(message, from) >> (8 - into);
+    values[at] = (window / 16777216 % 256) as i64;
+    values[at + 1] = (window / 65536 % 256) as i64;
+    values[at + 2] = (window / 256 % 256) as i64;
+    values[at + 3] = (window % 256) as i64;
+}
+
+// So many times four octets.
+fn read_fours(message: &[u8], from: usize, into: u32, fours: usize, values: &mut [i64], at: usize)
+    requires { ⌜ (into < 8) × (32 * fours ≤ 8 * length (now message) - (8 * from + into)) × (length (now message) ≤ mostOctets) × (4 * fours ≤ length (now values) - at) ⌝ }
+    ensures { λ _. ⌜ now (values .exit) ≡ storeAll set (now (values .entry)) at (octetValues (4 * fours) (drop (8 * from + into) (unpack (now (message .entry))))) ⌝ }
+{
+    let mut done = 0;
+    while done < fours {
+        read_four(message, from + 4 * done, into, values, at + 4 * done);
+        done += 1;
+    }
+}
+
 // Keeps the octets that begin so many bits into an octet of the message as numbers, as far as the slice reaches.
 fn read_numbers(message: &[u8], from: usize, into: u32, count: usize, values: &mut [i64], at: usize)
     requires { ⌜ (into < 8) × (8 * count ≤ 8 * length (now message) - (8 * from + into)) × (length (now message) ≤ mostOctets) ⌝ }
     ensures { λ _. ⌜ now (values .exit) ≡ storeAll set (now (values .entry)) at (octetValues count (drop (8 * from + into) (unpack (now (message .entry))))) ⌝ }
 {
     let fit = fitting(values.len(), at, count);
-    let mut done = 0;
+    let fours = fit / 4;
+    read_fours(&*message, from, into, fours, values, at);
+    let mut done = fours * 4;
     while done < fit {
         values[at + done] = access::octet_at(message, from + done, into) as i64;
         done += 1;

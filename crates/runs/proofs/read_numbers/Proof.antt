@@ -1,49 +1,55 @@
--- `runs::read_numbers` meets its contract. Invariant: what is left of the run, kept in what stands now.
-use Prim.Native.Nat.{ℕ, _+_, _-_, _*_}
-use mathlib.Core.Path.{_≡_, ap, _∙_}
+-- `runs::read_numbers` meets its contract. Invariant: a slice that held the first of the run when the loop began holds those up to
+-- now, whatever was lent.
+use Prim.Native.Nat.{ℕ, _+_, _-_, _*_, _/_, _≤_}
+use mathlib.Core.Path.{_≡_, refl, ap, _∙_}
+use mathlib.Core.List.{List}
 use native.Mathlib.Omega.{arith}
 use denote.Ref.{now}
-use lib.IntN.{pos}
-use lib.ListN.{take, drop, set, length-set}
+use lib.IntN.{ℤ}
+use lib.ListN.{length, set}
 use lib.Seq.{set-out}
-use mir.Syntax.{w64}
-use mir.Val.{toZ}
-use mir.Facts.{toZ-pos}
-use Rattle.bits.specs.Bits.{numberOf, unpack}
-use Rattle.runs.proofs.Copying.{Copying, copying-none, copying-one, copying-done}
+use Rattle.bits.specs.Bits.{unpack}
+use Rattle.runs.proofs.Copying.{octet-is, kept, kept-one, kept-all}
 use borrow.Author.Needs.{needs}
 use Rattle.runs.proofs.read_numbers.Statement.{statement}
 use Rattle.runs.proofs.read_numbers.Tie as tie
 
 abbrev Inv-loop : tie.InvT-loop
-Inv-loop message from into count values₀ at fit done₀ values done =
-    Copying set (unpack message) (8 * from + into) at count values₀ values done
+Inv-loop message from into count values₀ at fit fours done₀ values done =
+    let after = kept set (unpack message) (8 * from + into) at in
+    (done ≤ count) × (length values ≡ length values₀) × ((lent : List ℤ) → values₀ ≡ after done₀ lent → values ≡ after done lent)
 
 abbrev μ-loop : tie.MeasureT-loop
-μ-loop message from into count values₀ at fit done₀ values done = fit - done
+μ-loop message from into count values₀ at fit fours done₀ values done = fit - done
 
 loop-holds : tie.Need-loop-holds Inv-loop μ-loop
-loop-holds c =
-    let a = c .before .before .args in
-    copying-none set (unpack (now (a .message))) (8 * a .from + a .into) (a .at) (a .count) (now (a .values))
+loop-holds c = (omega arith, refl, λ lent e. e)
 
 loop-again : tie.Need-loop-again Inv-loop μ-loop
 loop-again c =
+    let octet = c .octet-at in
     let l = c .before .before .loop in
-    let a = c .before .before .before .before .before .args in
+    let a = c .before .before .before .before .before .before .before .before .args in
     let b = unpack (now (a .message)) in
     let start = 8 * a .from + a .into in
-    let e : 8 * (a .from + l .done) + a .into ≡ start + 8 * l .done = omega arith in
-    copying-one set b start (a .at) (a .count) (now (a .values)) (l .values) (l .done) (toZ w64 (c .octet-at .result)) (l .inv) (omega arith)
-    (toZ-pos w64 {n = c .octet-at .result} (omega arith) ∙ ap pos (c .octet-at .ensures .0 ∙ ap (λ (k : ℕ). numberOf (take 8 (drop k b))) e))
-    (length-set (l .values) (a .at + l .done) (toZ w64 (c .octet-at .result)))
+    let v = octet-is b (8 * (a .from + l .done) + a .into) (start + 8 * l .done) (octet .result) (octet .ensures .0) (octet .ensures .1) (omega arith) in (
+      omega arith,
+      search needs,
+      λ lent e. kept-one set b start (a .at) lent (l .values) (l .done) (l .inv .2 lent e) _ v,
+    )
 
 returns : tie.Need-returns Inv-loop μ-loop
 returns c =
     let l = c .before .loop in
-    let a = c .before .before .before .before .args in
-    copying-done set (unpack (now (a .message))) (8 * a .from + a .into) (a .at) (a .count) (now (a .values)) (l .values) (l .done) (l .inv)
-    (λ more j v h. set-out (l .values) j v (omega (arith, l .inv .same)))
+    let fours = c .before .before .before .read-fours in
+    let a = c .before .before .before .before .before .before .before .args in
+    let b = unpack (now (a .message)) in
+    let start = 8 * a .from + a .into in
+    let n = c .before .before .before .before .before .fitting .result / 4 in
+    let turned : 4 * n ≡ n * 4 = omega arith in
+    kept-all set b start (a .at) (now (a .values)) (l .values) (l .done)
+    (l .inv .2 (now (a .values)) (fours .ensures ∙ ap (λ (k : ℕ). kept set b start (a .at) k (now (a .values))) turned)) (a .count) (l .inv .0)
+    (λ more j v h. set-out (l .values) j v (omega arith))
 
 pub read-numbers-spec : {M : Type 1} → statement M
 read-numbers-spec =
@@ -52,6 +58,8 @@ read-numbers-spec =
     Inv-loop
     μ-loop
     (λ c κs. search needs)
+    (λ c κs. search needs)
+    (λ c. search needs)
     loop-holds
     (λ c. search needs)
     (λ c κs. search needs)
