@@ -7,7 +7,6 @@ use item::Form;
 use item::Item;
 ghost use mathlib.Core.Path.{_≡_};
 ghost use Prim.Native.Nat.{_+_, _*_, _≤_, _<_};
-ghost use lib.IntN.{pos};
 ghost use lib.ListN.{length, drop};
 ghost use lib.Signed.{mag};
 ghost use Rattle.bits.specs.Access.{mostOctets};
@@ -64,18 +63,6 @@ pub fn number(message: &[u8], place: BitPlace, low: i64, span: u32) -> Item
     }
     let value = low + n as i64;
     Item::Value(value, next)
-}
-
-// An octet: a number from 0 to 255.
-pub fn octet(message: &[u8], place: BitPlace) -> Item
-    requires { ⌜ length (now message) ≤ mostOctets ⌝ }
-    ensures { λ r. ⌜ r ≡ itemAt (Code.number (pos 0) 255) (now (message .entry)) (place .0) ⌝ }
-{
-    let f = octet_at(message, place);
-    let Fetched::Bits(n, next) = f else {
-        return Item::Bad(Refusal::new(Refusal::MESSAGE_ENDS, place.0));
-    };
-    Item::Value(n as i64, next)
 }
 
 // How many ones stand in front of an octet, counted up to 4.

@@ -10,7 +10,7 @@ ghost use Rattle.bits.specs.Access.{mostOctets};
 ghost use Rattle.octets.specs.Numbers.{u16, u32, signed};
 ghost use Rattle.item.specs.Code.{Code};
 ghost use Rattle.rules.specs.Rules.{Obeys, Starts};
-ghost use Rattle.items.specs.Items.{one};
+ghost use Rattle.items.specs.Items.{one, times};
 ghost use Rattle.encoding.specs.Rows.{items};
 ghost use Rattle.read_steps.specs.Reads.{Reads, stateAt};
 
@@ -29,8 +29,41 @@ pub fn number(
 {
     let low = Row::low_at(table, at);
     let span = Row::span_at(table, at);
-    let item = read_item::number(message, cursor.place, low, span as u32);
+    let item = read_item::number(&*message, cursor.place, low, span as u32);
     read_steps::kept(item, values, packed, room, cursor)
+}
+
+// So many numbers of one number row. Where they are octets, as a run of octets.
+pub fn numbers(
+    table: &[u8],
+    at: usize,
+    count: usize,
+    message: &[u8],
+    values: &mut [i64],
+    packed: &mut [u8],
+    room: usize,
+    cursor: Cursor,
+) -> Step
+    requires { ⌜ (at + 12 ≤ length (now table)) × (length (now message) ≤ mostOctets) ⌝ }
+    ensures { λ r. ⌜ Reads (now (message .entry)) room (times count (one (Code.number (signed (u32 (now (table .entry)) (at + 4))) (u32 (now (table .entry)) (at + 8))))) (stateAt cursor (now (values .entry)) (now (packed .entry))) (now (values .exit)) (now (packed .exit)) r ⌝ }
+{
+    let low = Row::low_at(table, at);
+    let span = Row::span_at(table, at);
+    if span == 255 {
+        if low == 0 {
+            return read_steps::read_octets(count, &*message, values, packed, room, cursor);
+        }
+    }
+    read_steps::read_numbers(
+        count,
+        low,
+        span as u32,
+        &*message,
+        values,
+        packed,
+        room,
+        cursor,
+    )
 }
 
 // A variable number row.
@@ -44,7 +77,7 @@ pub fn variable(
     requires { ⌜ length (now message) ≤ mostOctets ⌝ }
     ensures { λ r. ⌜ Reads (now (message .entry)) room (one Code.variable) (stateAt cursor (now (values .entry)) (now (packed .entry))) (now (values .exit)) (now (packed .exit)) r ⌝ }
 {
-    let item = read_item::variable(message, cursor.place);
+    let item = read_item::variable(&*message, cursor.place);
     read_steps::kept(item, values, packed, room, cursor)
 }
 
@@ -62,11 +95,11 @@ pub fn octets(
     ensures { λ r. ⌜ Reads (now (message .entry)) room (items (now (table .entry)) at) (stateAt cursor (now (values .entry)) (now (packed .entry))) (now (values .exit)) (now (packed .exit)) r ⌝ }
 {
     let most = Row::count_at(table, at);
-    let item = read_item::length(message, cursor.place, 0, most as u32);
+    let item = read_item::length(&*message, cursor.place, 0, most as u32);
     let step = read_steps::kept(item, values, packed, room, cursor);
     let Step::Past(next) = step else {
         return step;
     };
     let count = read_steps::count_of(item);
-    read_steps::read_octets(count, message, values, packed, room, next)
+    read_steps::read_octets(count, &*message, values, packed, room, next)
 }

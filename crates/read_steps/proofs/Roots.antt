@@ -1,6 +1,6 @@
 -- From the root that the reader read to the outcome of the message.
 -- Assumes nothing.
-use Prim.Native.Nat.{ℕ, _+_, _-_, _*_, _≤_, _<_}
+use Prim.Native.Nat.{ℕ, _+_, _*_, _≤_, _<_}
 use mathlib.Core.Bool.{Bool, true, false, cond, _&&_}
 use mathlib.Core.Path.{_≡_, refl, sym, ap, ap₂, _∙_, subst}
 use mathlib.Core.Logic.{_≢_}
@@ -10,8 +10,8 @@ use native.Mathlib.Nat.{zero-add, sub-zero}
 use lib.Pow.{pow-pos}
 use lib.Dec.{eqb}
 use lib.IntN.{ℤ}
-use lib.ListN.{length, take, drop, set, length-append, length-drop}
-use lib.Seq.{drop-at, take-all}
+use lib.ListN.{length, drop, set, length-append}
+use lib.Seq.{drop-at}
 use borrow.Author.Tests.{eq-eqb, ne-eqb}
 use Rattle.answer.specs.Numbers.{refusalAt, accepted, refused}
 use Rattle.bits.specs.Bits.{numberOf, unpack}
@@ -51,20 +51,14 @@ module _ (m : List ℕ) (c : Cursor) where
   pub other-size : length m ≢ size (c .place .0) → refused 9 (c .place .0) ≡ closed m c
   other-size h = rw (ne-eqb (length m) (size (c .place .0)) h)
 
-  -- the bits after the root, all of them
-  rest : (k : ℕ) → c .place .0 + k ≡ 8 * length m → take k (drop (c .place .0) (unpack m)) ≡ drop (c .place .0) (unpack m)
-  rest k h = take-all k (drop (c .place .0) (unpack m)) (rw (length-drop, length-unpack) (omega arith))
-
-  pub not-zero : (k n : ℕ) → length m ≡ size (c .place .0) → c .place .0 + k ≡ 8 * length m → n ≡ numberOf (take k (drop (c .place .0) (unpack m))) → n ≢ 0
-      → refused 9 (c .place .0) ≡ closed m c
-  not-zero k n e h q z =
-      let b : numberOf (drop (c .place .0) (unpack m)) ≢ 0 = λ y. z (q ∙ ap numberOf (rest k h) ∙ y) in
+  -- by the number that the bits after the root spell
+  pub not-zero : (n : ℕ) → length m ≡ size (c .place .0) → n ≡ numberOf (drop (c .place .0) (unpack m)) → n ≢ 0 → refused 9 (c .place .0) ≡ closed m c
+  not-zero n e q z =
+      let b : numberOf (drop (c .place .0) (unpack m)) ≢ 0 = λ y. z (q ∙ y) in
       rw (eq-eqb (length m) (size (c .place .0)) e, nonzero-bits (drop (c .place .0) (unpack m)) b)
 
-  pub all-zero : (k n : ℕ) → length m ≡ size (c .place .0) → c .place .0 + k ≡ 8 * length m → n ≡ numberOf (take k (drop (c .place .0) (unpack m))) → n ≡ 0
-      → accepted (c .count) (c .place .0) 0 ≡ closed m c
-  all-zero k n e h q z =
-      rw (eq-eqb (length m) (size (c .place .0)) e, zero-bits (drop (c .place .0) (unpack m)) (sym (q ∙ ap numberOf (rest k h)) ∙ z))
+  pub all-zero : (n : ℕ) → length m ≡ size (c .place .0) → n ≡ numberOf (drop (c .place .0) (unpack m)) → n ≡ 0 → accepted (c .count) (c .place .0) 0 ≡ closed m c
+  all-zero n e q z = rw (eq-eqb (length m) (size (c .place .0)) e, zero-bits (drop (c .place .0) (unpack m)) (sym q ∙ z))
 
 -- ── the root ──
 

@@ -1,15 +1,15 @@
-// The steps of a reader that know no table: an item that was read is kept, octets are read singly and in runs, and the padding
+// The steps of a reader that know no table: an item that was read is kept, numbers and octets are read in runs, and the padding
 // closes a message.
 use answer::Answer;
 use answer::Refusal;
 use bits::BitPlace;
-use bits::Fetched;
 use bits::OctetSize;
 use item::Item;
 ghost use mathlib.Core.Path.{_≡_};
 ghost use Prim.Native.Nat.{_*_, _≤_};
 ghost use lib.IntN.{pos};
 ghost use lib.ListN.{length, set};
+ghost use lib.Signed.{mag};
 ghost use Rattle.bits.specs.Access.{mostOctets};
 ghost use Rattle.item.specs.Code.{Code};
 ghost use Rattle.values.specs.Values.{setValue};
@@ -27,6 +27,22 @@ pub struct Cursor {
 pub enum Step {
     Past(Cursor),
     Refused(Refusal),
+}
+
+impl Step {
+    // The same step, made anew. A step that a call gave and that is given on, the compiler copies piece by piece through memory;
+    // made anew, it stays in registers.
+    pub fn again(step: Step) -> Step
+        ensures { λ r. ⌜ r ≡ step ⌝ }
+    {
+        match step {
+            Step::Past(cursor) => Step::Past(Cursor {
+                place: BitPlace(cursor.place.0),
+                count: cursor.count,
+            }),
+            Step::Refused(refusal) => Step::Refused(Refusal::new(refusal.number, refusal.place)),
+        }
+    }
 }
 
 // An item that was read is kept, where there is room for its value.
@@ -59,22 +75,24 @@ pub fn count_of(item: Item) -> usize
     }
 }
 
-// So many octets, each a value, one by one.
-fn read_singly(
+// So many numbers of one low and one span.
+pub fn read_numbers(
     count: usize,
+    low: i64,
+    span: u32,
     message: &[u8],
     values: &mut [i64],
     packed: &mut [u8],
     room: usize,
     cursor: Cursor,
 ) -> Step
-    requires { ⌜ length (now message) ≤ mostOctets ⌝ }
-    ensures { λ r. ⌜ Reads (now (message .entry)) room (times count (one (Code.number (pos 0) 255))) (stateAt cursor (now (values .entry)) (now (packed .entry))) (now (values .exit)) (now (packed .exit)) r ⌝ }
+    requires { ⌜ (length (now message) ≤ mostOctets) × (mag low ≤ 2147483648) ⌝ }
+    ensures { λ r. ⌜ Reads (now (message .entry)) room (times count (one (Code.number low span))) (stateAt cursor (now (values .entry)) (now (packed .entry))) (now (values .exit)) (now (packed .exit)) r ⌝ }
 {
     let mut done = 0;
     let mut here = cursor;
     while done < count {
-        let item = read_item::octet(message, here.place);
+        let item = read_item::number(message, here.place, low, span);
         let step = kept(item, values, packed, room, here);
         let Step::Past(next) = step else {
             return step;
@@ -106,7 +124,11 @@ pub fn read_octets(
         place: BitPlace::further(cursor.place, OctetSize(ready)),
         count: cursor.count + ready,
     };
-    read_singly(count - ready, message, values, packed, room, next)
+    if ready == count {
+        return Step::Past(next);
+    }
+    let step = read_numbers(count - ready, 0, 255, &*message, values, packed, room, next);
+    Step::again(step)
 }
 
 // The close of a message whose root ends at a cursor: its last octet ends the message, and zero bits fill it.
@@ -120,12 +142,8 @@ pub fn close(message: &[u8], end: Cursor) -> Answer
     if message.len() != size.0 {
         return Answer::refused(Refusal::NOT_PADDING, after);
     }
-    let all = BitPlace::after(OctetSize(message.len()));
-    let padding = access::fetch(message, place, (all.0 - after) as u32);
-    let Fetched::Bits(number, _) = padding else {
-        return Answer::refused(Refusal::NOT_PADDING, after);
-    };
-    if number != 0 {
+    let all = BitPlace::after(size);
+    if access::last_bits(message, (all.0 - after) as u32) != 0 {
         return Answer::refused(Refusal::NOT_PADDING, after);
     }
     Answer::accepted(end.count, place, OctetSize(0))

@@ -6,7 +6,7 @@ use item::Form;
 use item::Put;
 ghost use mathlib.Core.Path.{_≡_};
 ghost use Prim.Native.Nat.{_+_, _*_, _≤_, _<_, _^_};
-ghost use lib.IntN.{pos, _-ℤ_};
+ghost use lib.IntN.{_-ℤ_};
 ghost use lib.ListN.{length};
 ghost use lib.Signed.{mag};
 ghost use Rattle.bits.specs.Bits.{bitsOf, unpack};
@@ -58,35 +58,6 @@ pub fn number(output: &mut [u8], place: BitPlace, low: i64, span: u32, value: i6
         return Put::Unfit(Refusal::WRONG_VALUE);
     };
     put_bits(output, place, item::width(span), n)
-}
-
-fn narrow(n: u32) -> u8
-    requires { ⌜ n < 256 ⌝ }
-    ensures { λ r. ⌜ r ≡ n ⌝ }
-{
-    n as u8
-}
-
-// An octet: a number from 0 to 255. One store where its bits are an octet of the output.
-pub fn octet(output: &mut [u8], place: BitPlace, value: i64) -> Put
-    requires { ⌜ length (now output) ≤ mostOctets ⌝ }
-    ensures { λ r. ⌜ (r ≡ putAt (Code.number (pos 0) 255) (now (output .entry)) (place .0) value) × (unpack (now (output .exit)) ≡ bitsAfter (Code.number (pos 0) 255) (unpack (now (output .entry))) (place .0) value) ⌝ }
-{
-    let d = distance(value, 0, 255);
-    let Offset::Within(n) = d else {
-        return Put::Unfit(Refusal::WRONG_VALUE);
-    };
-    let from = place.0;
-    let first = BitPlace::octets_before(place);
-    let at = first.0;
-    if BitPlace::bits_into_octet(place) != 0 {
-        return put_bits(output, place, 8, n);
-    }
-    if output.len() <= at {
-        return Put::Unfit(Refusal::NO_ROOM);
-    }
-    output[at] = narrow(n);
-    Put::Next(BitPlace(from + 8))
 }
 
 // How many ones a variable number has in front.

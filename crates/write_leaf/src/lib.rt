@@ -11,7 +11,7 @@ ghost use Rattle.bits.specs.Access.{mostOctets};
 ghost use Rattle.octets.specs.Numbers.{u16, u32, signed};
 ghost use Rattle.item.specs.Code.{Code};
 ghost use Rattle.rules.specs.Rules.{Obeys, Starts};
-ghost use Rattle.items.specs.Items.{one};
+ghost use Rattle.items.specs.Items.{one, times};
 ghost use Rattle.encoding.specs.Rows.{items};
 ghost use Rattle.write_steps.specs.Writes.{Writes, listIn, stateAt};
 
@@ -27,7 +27,7 @@ pub fn number(
     requires { ⌜ (at + 12 ≤ length (now table)) × (length (now output) ≤ mostOctets) ⌝ }
     ensures { λ r. ⌜ Writes (listIn (now (values .entry)) (now (packed .entry))) (one (Code.number (signed (u32 (now (table .entry)) (at + 4))) (u32 (now (table .entry)) (at + 8)))) (stateAt cursor (now (output .entry))) (now (output .exit)) r ⌝ }
 {
-    let given = write_steps::next_value(values, packed, cursor.index);
+    let given = write_steps::next_value(&*values, &*packed, cursor.index);
     let Given::Value(value, after) = given else {
         return Step::Refused(write_steps::missing(cursor.index));
     };
@@ -37,12 +37,35 @@ pub fn number(
     write_steps::moved(put, cursor.index, after)
 }
 
+// So many numbers of one number row. Where they are octets, as a run of octets.
+pub fn numbers(
+    table: &[u8],
+    at: usize,
+    count: usize,
+    values: &[i64],
+    packed: &[u8],
+    output: &mut [u8],
+    cursor: Cursor,
+) -> Step
+    requires { ⌜ (at + 12 ≤ length (now table)) × (length (now output) ≤ mostOctets) ⌝ }
+    ensures { λ r. ⌜ Writes (listIn (now (values .entry)) (now (packed .entry))) (times count (one (Code.number (signed (u32 (now (table .entry)) (at + 4))) (u32 (now (table .entry)) (at + 8))))) (stateAt cursor (now (output .entry))) (now (output .exit)) r ⌝ }
+{
+    let low = Row::low_at(table, at);
+    let span = Row::span_at(table, at);
+    if span == 255 {
+        if low == 0 {
+            return write_steps::write_octets(count, &*values, &*packed, output, cursor);
+        }
+    }
+    write_steps::write_numbers(count, low, span as u32, &*values, &*packed, output, cursor)
+}
+
 // A variable number row.
 pub fn variable(values: &[i64], packed: &[u8], output: &mut [u8], cursor: Cursor) -> Step
     requires { ⌜ length (now output) ≤ mostOctets ⌝ }
     ensures { λ r. ⌜ Writes (listIn (now (values .entry)) (now (packed .entry))) (one Code.variable) (stateAt cursor (now (output .entry))) (now (output .exit)) r ⌝ }
 {
-    let given = write_steps::next_value(values, packed, cursor.index);
+    let given = write_steps::next_value(&*values, &*packed, cursor.index);
     let Given::Value(value, after) = given else {
         return Step::Refused(write_steps::missing(cursor.index));
     };
@@ -62,7 +85,7 @@ pub fn octets(
     requires { ⌜ Obeys (now table) × Starts (now table) at × (u16 (now table) (at + 2) ≡ 7) × (length (now output) ≤ mostOctets) ⌝ }
     ensures { λ r. ⌜ Writes (listIn (now (values .entry)) (now (packed .entry))) (items (now (table .entry)) at) (stateAt cursor (now (output .entry))) (now (output .exit)) r ⌝ }
 {
-    let given = write_steps::next_value(values, packed, cursor.index);
+    let given = write_steps::next_value(&*values, &*packed, cursor.index);
     let Given::Value(value, after) = given else {
         return Step::Refused(write_steps::missing(cursor.index));
     };
@@ -73,5 +96,5 @@ pub fn octets(
         return step;
     };
     let count = item::count_of(value);
-    write_steps::write_octets(count, values, packed, output, next)
+    write_steps::write_octets(count, &*values, &*packed, output, next)
 }

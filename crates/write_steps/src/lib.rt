@@ -1,5 +1,5 @@
-// The steps of a writer that know no table: the next value of a list is given and put, octets are written singly and in runs, and
-// zero bits end a message.
+// The steps of a writer that know no table: the next value of a list is given and put, numbers and octets are written in runs,
+// and zero bits end a message.
 use answer::Answer;
 use answer::Refusal;
 use bits::BitPlace;
@@ -9,6 +9,7 @@ ghost use mathlib.Core.Path.{_≡_};
 ghost use Prim.Native.Nat.{_*_, _≤_, min};
 ghost use lib.IntN.{pos};
 ghost use lib.ListN.{length};
+ghost use lib.Signed.{mag};
 ghost use Rattle.bits.specs.Access.{mostOctets};
 ghost use Rattle.item.specs.Code.{Code};
 ghost use Rattle.items.specs.Items.{one, times};
@@ -25,6 +26,22 @@ pub struct Cursor {
 pub enum Step {
     Past(Cursor),
     Refused(Refusal),
+}
+
+impl Step {
+    // The same step, made anew. A step that a call gave and that is given on, the compiler copies piece by piece through memory;
+    // made anew, it stays in registers.
+    pub fn again(step: Step) -> Step
+        ensures { λ r. ⌜ r ≡ step ⌝ }
+    {
+        match step {
+            Step::Past(cursor) => Step::Past(Cursor {
+                place: BitPlace(cursor.place.0),
+                index: cursor.index,
+            }),
+            Step::Refused(refusal) => Step::Refused(Refusal::new(refusal.number, refusal.place)),
+        }
+    }
 }
 
 // The next value of the list and the index after it, or that the list ends before it.
@@ -63,25 +80,27 @@ pub fn moved(put: Put, index: usize, after: usize) -> Step
     }
 }
 
-// So many octets, each a value, one by one.
-fn write_singly(
+// So many numbers of one low and one span.
+pub fn write_numbers(
     count: usize,
+    low: i64,
+    span: u32,
     values: &[i64],
     packed: &[u8],
     output: &mut [u8],
     cursor: Cursor,
 ) -> Step
-    requires { ⌜ length (now output) ≤ mostOctets ⌝ }
-    ensures { λ r. ⌜ Writes (listIn (now (values .entry)) (now (packed .entry))) (times count (one (Code.number (pos 0) 255))) (stateAt cursor (now (output .entry))) (now (output .exit)) r ⌝ }
+    requires { ⌜ (length (now output) ≤ mostOctets) × (mag low ≤ 2147483648) ⌝ }
+    ensures { λ r. ⌜ Writes (listIn (now (values .entry)) (now (packed .entry))) (times count (one (Code.number low span))) (stateAt cursor (now (output .entry))) (now (output .exit)) r ⌝ }
 {
     let mut done = 0;
     let mut here = cursor;
     while done < count {
-        let given = next_value(values, packed, here.index);
+        let given = next_value(&*values, &*packed, here.index);
         let Given::Value(value, after) = given else {
             return Step::Refused(missing(here.index));
         };
-        let put = write_item::octet(output, here.place, value);
+        let put = write_item::number(output, here.place, low, span, value);
         let step = moved(put, here.index, after);
         let Step::Past(next) = step else {
             return step;
@@ -103,12 +122,23 @@ pub fn write_octets(
     requires { ⌜ length (now output) ≤ mostOctets ⌝ }
     ensures { λ r. ⌜ Writes (listIn (now (values .entry)) (now (packed .entry))) (times count (one (Code.number (pos 0) 255))) (stateAt cursor (now (output .entry))) (now (output .exit)) r ⌝ }
 {
-    let done = runs::write(values, packed, cursor.index, count, output, cursor.place);
+    let done = runs::write(
+        &*values,
+        &*packed,
+        cursor.index,
+        count,
+        output,
+        cursor.place,
+    );
     let next = Cursor {
         place: BitPlace::further(cursor.place, OctetSize(done)),
         index: cursor.index + done,
     };
-    write_singly(count - done, values, packed, output, next)
+    if done == count {
+        return Step::Past(next);
+    }
+    let step = write_numbers(count - done, 0, 255, &*values, &*packed, output, next);
+    Step::again(step)
 }
 
 // A step of the root that was refused, as an answer.
@@ -137,7 +167,7 @@ pub fn finish(count: usize, output: &mut [u8], end: Cursor) -> Answer
     let place = end.place;
     let size = OctetSize::holding(place);
     let all = BitPlace::after(size);
-    access::store(output, place, (all.0 - place.0) as u32, 0);
+    access::replace_in_octet(output, size.0 - 1, 0, (all.0 - place.0) as u32, 0);
     Answer::accepted(0, BitPlace(0), size)
 }
 
