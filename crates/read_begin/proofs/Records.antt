@@ -12,7 +12,7 @@ use Rattle.parts.proofs.Records.{leftAfter, flagsBehind, fieldsBehind, record-f
 use Rattle.read_begin.proofs.Begun.{the-type}
 use Rattle.read_steps.specs.declared.Cursor.{Cursor}
 use Rattle.read_begin.specs.declared.Begun.{Begun}
-use Rattle.read_begin.specs.declared.Begun.the-variants.{Done, Run, Branch, Fields, Refused}
+use Rattle.read_begin.specs.declared.Begun.the-variants.{Done, Run, Numbers, Fields, Refused}
 use Rattle.read_steps.specs.Reads.{State, stateAt, Continues}
 use Rattle.read_begin.specs.Begins.{Begins, Marks}
 use Rattle.read_steps.proofs.Flow.{continues-trans, continues-same}
@@ -34,7 +34,7 @@ module _ {message : List ℕ} {room : ℕ} {start here : State} (t : List ℕ) (
       → Marks flag mask message room here values packed begun → Begins t o message room (items t o) start values packed begun
   no-mark (Done to) values packed k m = absurd m
   no-mark (Run count row to) values packed k m = absurd m
-  no-mark (Branch row to) values packed k m = absurd m
+  no-mark (Numbers count row to) values packed k m = absurd m
   no-mark (Fields marked to) values packed k m = absurd (miss (0 ∷ 1 ∷ 2 ∷ 4 ∷ []) 3 tt k)
   no-mark (Refused refusal) values packed k m =
       continues-trans so-far (continues-same (record-flag t o i flag mask inside small is)) .complete values packed _ (m (flagsBehind t o i) (fieldsBehind t o i mask))

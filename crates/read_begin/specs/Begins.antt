@@ -1,20 +1,51 @@
--- What the reader of a row leaves to be read once the row's own items are: the parts that it refers to.
-use Prim.Native.Nat.{ℕ, _+_, _/_, _%_, _<_, _^_}
-use mathlib.Core.Bool.{Bool}
+-- Where choices lead, and what the reader of a row leaves to be read once the row's own items are: the parts that it refers to.
+use Prim.Native.Nat.{ℕ, _+_, _/_, _%_, _≤_, _<_, _^_}
+use mathlib.Core.Bool.{Bool, cond}
 use mathlib.Core.Path.{_≡_}
 use mathlib.Core.List.{List, _∷_}
 use lib.Dec.{eqb}
 use lib.IntN.{ℤ}
-use Rattle.octets.specs.Numbers.{u16}
-use Rattle.rules.specs.Rules.{Earlier}
-use Rattle.items.specs.Items.{Items, stop, times}
+use lib.ListN.{length}
+use Rattle.octets.specs.Numbers.{u16, u32, signed}
+use Rattle.item.specs.Code.{number}
+use Rattle.rules.specs.Rules.{Starts, Earlier}
+use Rattle.items.specs.Items.{Items, stop, one, times}
 use Rattle.encoding.specs.Rows.{presence, items}
 use Rattle.parts.specs.Parts.{markedFields}
+use Rattle.read_steps.specs.declared.Cursor.{Cursor}
 use Rattle.read_steps.specs.declared.Step.{Step}
 use Rattle.read_steps.specs.declared.Step.the-variants.{Past, Refused as StepRefused}
 use Rattle.read_begin.specs.declared.Begun.{Begun}
-use Rattle.read_begin.specs.declared.Begun.the-variants.{Done, Run, Branch, Fields, Refused}
+use Rattle.read_begin.specs.declared.Begun.the-variants.{Done, Run, Numbers, Fields, Refused}
+use Rattle.read_begin.specs.declared.Chosen.{Chosen}
+use Rattle.read_begin.specs.declared.Chosen.the-variants.{Row, Refused as ChosenRefused}
 use Rattle.read_steps.specs.Reads.{State, stateAt, Reads, Continues}
+
+-- ── choices ──
+
+abbrev pub NoChoice : List ℕ → ℕ → Type 0
+NoChoice t o = u16 t (o + 2) ≡ 6 → ⊥
+
+-- a choice at o, chosen: refused; or the row of its branch, an earlier one, is left
+abbrev pub Chooses : List ℕ → ℕ → List ℕ → ℕ → State → List ℤ → List ℕ → Chosen → Type 0
+Chooses t o message room from values packed (Row row to) = Earlier t o row × Continues message room (items t o) from (items t row) (stateAt to values packed)
+Chooses t o message room from values packed (ChosenRefused refusal) = Reads message room (items t o) from values packed (StepRefused refusal)
+
+-- the choices from the row at o on: refused; or a row that is no choice, none behind o, is left
+abbrev pub Leads : List ℕ → ℕ → List ℕ → ℕ → State → List ℤ → List ℕ → Chosen → Type 0
+Leads t o message room from values packed (Row row to) =
+    Starts t row × (row ≤ o) × NoChoice t row × Continues message room (items t o) from (items t row) (stateAt to values packed)
+Leads t o message room from values packed (ChosenRefused refusal) = Reads message room (items t o) from values packed (StepRefused refusal)
+
+-- ── other rows ──
+
+-- a run of the row at an offset: of numbers, where it is a number row
+abbrev pub runOf : List ℕ → ℕ → ℕ → Cursor → Begun
+runOf t count row to = cond (eqb (u16 t (row + 2)) 1) (Numbers count row to) (Run count row to)
+
+-- what the number row at an offset asks for
+abbrev pub numberRow : List ℕ → ℕ → Items
+numberRow t row = one (number (signed (u32 t (row + 4))) (u32 t (row + 8)))
 
 -- a step as the beginning of a row that asks for no more
 abbrev pub wholeOf : Step → Begun
@@ -26,7 +57,8 @@ abbrev pub Begins : List ℕ → ℕ → List ℕ → ℕ → Items → State �
 Begins t o message room p from values packed (Done to) = Continues message room p from stop (stateAt to values packed)
 Begins t o message room p from values packed (Run count row to) =
     Earlier t o row × Continues message room p from (times count (items t row)) (stateAt to values packed)
-Begins t o message room p from values packed (Branch row to) = Earlier t o row × Continues message room p from (items t row) (stateAt to values packed)
+Begins t o message room p from values packed (Numbers count row to) =
+    (row + 12 ≤ length t) × Continues message room p from (times count (numberRow t row)) (stateAt to values packed)
 Begins t o message room p from values packed (Fields mask to) =
     (u16 t (o + 2) ≡ 5) × (mask < 2 ^ u16 t (o + 4)) × Continues message room p from (markedFields t o mask) (stateAt to values packed)
 Begins t o message room p from values packed (Refused refusal) = Reads message room p from values packed (StepRefused refusal)
@@ -40,4 +72,4 @@ Marks flag mask message room from values packed (Refused refusal) =
     (flags : List ℕ) (k : List Bool → Items) → Reads message room (presence (flag ∷ flags) k) from values packed (StepRefused refusal)
 Marks flag mask message room from values packed (Done to) = ⊥
 Marks flag mask message room from values packed (Run count row to) = ⊥
-Marks flag mask message room from values packed (Branch row to) = ⊥
+Marks flag mask message room from values packed (Numbers count row to) = ⊥

@@ -1,5 +1,6 @@
-// The beginning of a row: the items that are its own. All of them where it refers to no other row (read_leaf), else the length of
-// a counted run, the presence bits of a record, the index of a choice; and what they leave to be read.
+// The beginning of a row. Choices come first: each is an index, which leaves the row of its branch. Then the items that are the
+// row's own: all of them where it refers to no other row (read_leaf), else the length of a counted run or the presence bits of a
+// record; and what they leave to be read.
 use answer::Refusal;
 use read_steps::Cursor;
 use read_steps::Step;
@@ -12,14 +13,20 @@ ghost use Rattle.octets.specs.Numbers.{u16, u32};
 ghost use Rattle.rules.specs.Rules.{Obeys, Starts};
 ghost use Rattle.encoding.specs.Rows.{items};
 ghost use Rattle.read_steps.specs.Reads.{stateAt};
-ghost use Rattle.read_begin.specs.Begins.{Begins, Marks, wholeOf};
+ghost use Rattle.read_begin.specs.Begins.{Begins, Marks, Chooses, Leads, NoChoice, runOf, wholeOf};
 
-// What a row's own items leave to be read: nothing, a run of the row at an offset, the row at an offset, the fields of the
-// record that a mask marks as present (the first field on top); or the refusal.
+// Where choices lead: the row at an offset, which is left to be read; or the refusal.
+pub enum Chosen {
+    Row(usize, Cursor),
+    Refused(Refusal),
+}
+
+// What a row's own items leave to be read: nothing, a run of the row at an offset, numbers of the number row at an offset, the
+// fields of the record that a mask marks as present (the first field on top); or the refusal.
 pub enum Begun {
     Done(Cursor),
     Run(usize, usize, Cursor),
-    Branch(usize, Cursor),
+    Numbers(usize, usize, Cursor),
     Fields(u32, Cursor),
     Refused(Refusal),
 }
@@ -32,6 +39,17 @@ fn whole(step: Step) -> Begun
         Step::Past(next) => Begun::Done(next),
         Step::Refused(refusal) => Begun::Refused(refusal),
     }
+}
+
+// A run of the row at an offset: of numbers, where it is a number row.
+fn run_of(table: &[u8], count: usize, row: usize, next: Cursor) -> Begun
+    requires { ⌜ row + 4 ≤ length (now table) ⌝ }
+    ensures { λ r. ⌜ r ≡ runOf (now (table .entry)) count row next ⌝ }
+{
+    if Row::kind_at(table, row) == Row::NUMBER {
+        return Begun::Numbers(count, row, next);
+    }
+    Begun::Run(count, row, next)
 }
 
 // A counted run: a length, which leaves that many items of the row that it refers to.
@@ -54,11 +72,11 @@ fn begin_counted(
     let Step::Past(next) = step else {
         return whole(step);
     };
-    Begun::Run(read_steps::count_of(item), row, next)
+    run_of(table, read_steps::count_of(item), row, next)
 }
 
 // A choice: an index, which leaves the row of its branch.
-fn begin_choice(
+fn choose(
     table: &[u8],
     at: usize,
     message: &[u8],
@@ -66,18 +84,46 @@ fn begin_choice(
     packed: &mut [u8],
     room: usize,
     cursor: Cursor,
-) -> Begun
+) -> Chosen
     requires { ⌜ Obeys (now table) × Starts (now table) at × (u16 (now table) (at + 2) ≡ 6) × (length (now message) ≤ mostOctets) ⌝ }
-    ensures { λ r. ⌜ Begins (now (table .entry)) at (now (message .entry)) room (items (now (table .entry)) at) (stateAt cursor (now (values .entry)) (now (packed .entry))) (now (values .exit)) (now (packed .exit)) r ⌝ }
+    ensures { λ r. ⌜ Chooses (now (table .entry)) at (now (message .entry)) room (stateAt cursor (now (values .entry)) (now (packed .entry))) (now (values .exit)) (now (packed .exit)) r ⌝ }
 {
     let branches = Row::count_at(table, at);
     let item = read_item::index(message, cursor.place, table, at + Row::HEAD, branches);
     let step = read_steps::kept(item, values, packed, room, cursor);
-    let Step::Past(next) = step else {
-        return whole(step);
-    };
-    let row = Row::branch_at(table, at, read_steps::count_of(item));
-    Begun::Branch(row, next)
+    match step {
+        Step::Past(next) => Chosen::Row(
+            Row::branch_at(table, at, read_steps::count_of(item)),
+            next,
+        ),
+        Step::Refused(refusal) => Chosen::Refused(refusal),
+    }
+}
+
+// The row that the choices from an offset on lead to: the row there, where it is no choice.
+pub fn follow(
+    table: &[u8],
+    at: usize,
+    message: &[u8],
+    values: &mut [i64],
+    packed: &mut [u8],
+    room: usize,
+    cursor: Cursor,
+) -> Chosen
+    requires { ⌜ Obeys (now table) × Starts (now table) at × (length (now message) ≤ mostOctets) ⌝ }
+    ensures { λ r. ⌜ Leads (now (table .entry)) at (now (message .entry)) room (stateAt cursor (now (values .entry)) (now (packed .entry))) (now (values .exit)) (now (packed .exit)) r ⌝ }
+{
+    let mut row = at;
+    let mut here = cursor;
+    while Row::kind_at(table, row) == Row::CHOICE {
+        let chosen = choose(table, row, message, values, packed, room, here);
+        let Chosen::Row(branch, next) = chosen else {
+            return chosen;
+        };
+        row = branch;
+        here = next;
+    }
+    Chosen::Row(row, here)
 }
 
 // A field's mark behind those before it: set where the field is always there, else its presence bit, which is a value.
@@ -137,7 +183,7 @@ fn begin_record(
     Begun::Fields(mask, here)
 }
 
-// The row at an offset: its own items, and what they leave.
+// The row at an offset, which is no choice: its own items, and what they leave.
 pub fn begin(
     table: &[u8],
     at: usize,
@@ -147,21 +193,20 @@ pub fn begin(
     room: usize,
     cursor: Cursor,
 ) -> Begun
-    requires { ⌜ Obeys (now table) × Starts (now table) at × (length (now message) ≤ mostOctets) ⌝ }
+    requires { ⌜ Obeys (now table) × Starts (now table) at × NoChoice (now table) at × (length (now message) ≤ mostOctets) ⌝ }
     ensures { λ r. ⌜ Begins (now (table .entry)) at (now (message .entry)) room (items (now (table .entry)) at) (stateAt cursor (now (values .entry)) (now (packed .entry))) (now (values .exit)) (now (packed .exit)) r ⌝ }
 {
     let kind = Row::kind_at(table, at);
     match kind {
-        Row::NUMBER => whole(read_leaf::number(table, at, message, values, packed, room, cursor)),
+        Row::NUMBER => Begun::Numbers(1, at, cursor),
         Row::VARIABLE => whole(read_leaf::variable(message, values, packed, room, cursor)),
         Row::FIXED_RUN => {
             let count = Row::count_at(table, at);
             let row = Row::run_at(table, at);
-            Begun::Run(count, row, cursor)
+            run_of(table, count, row, cursor)
         }
         Row::COUNTED_RUN => begin_counted(table, at, message, values, packed, room, cursor),
         Row::RECORD => begin_record(table, at, message, values, packed, room, cursor),
-        Row::CHOICE => begin_choice(table, at, message, values, packed, room, cursor),
         _ => whole(read_leaf::octets(table, at, message, values, packed, room, cursor)),
     }
 }

@@ -1,6 +1,7 @@
 // Reads the items that a row of a passed table asks for from a message, and keeps their values in the slices that are lent.
 // A row's own items come first (read_begin); then the rows that it refers to, each earlier in the table.
 use read_begin::Begun;
+use read_begin::Chosen;
 use read_steps::Cursor;
 use read_steps::Step;
 use row::Row;
@@ -12,6 +13,7 @@ ghost use Rattle.octets.specs.Numbers.{u16};
 ghost use Rattle.rules.specs.Rules.{Obeys, Starts, Earlier};
 ghost use Rattle.items.specs.Items.{times};
 ghost use Rattle.encoding.specs.Rows.{items};
+ghost use Rattle.read_begin.specs.Begins.{NoChoice};
 ghost use Rattle.read_steps.specs.Reads.{Reads, stateAt};
 ghost use Rattle.parts.specs.Parts.{markedFields, fieldIf};
 
@@ -28,26 +30,55 @@ pub fn read_row(
     requires { ⌜ Obeys (now table) × Starts (now table) at × (length (now message) ≤ mostOctets) ⌝ }
     ensures { λ r. ⌜ Reads (now (message .entry)) room (items (now (table .entry)) at) (stateAt cursor (now (values .entry)) (now (packed .entry))) (now (values .exit)) (now (packed .exit)) r ⌝ }
 {
-    let begun = read_begin::begin(table, at, message, values, packed, room, cursor);
+    let chosen = read_begin::follow(&*table, at, &*message, values, packed, room, cursor);
+    match chosen {
+        Chosen::Row(row, next) => read_chosen(&*table, row, &*message, values, packed, room, next),
+        Chosen::Refused(refusal) => Step::Refused(refusal),
+    }
+}
+
+// The row at an offset, which is no choice.
+fn read_chosen(
+    table: &[u8],
+    at: usize,
+    message: &[u8],
+    values: &mut [i64],
+    packed: &mut [u8],
+    room: usize,
+    cursor: Cursor,
+) -> Step
+    requires { ⌜ Obeys (now table) × Starts (now table) at × NoChoice (now table) at × (length (now message) ≤ mostOctets) ⌝ }
+    ensures { λ r. ⌜ Reads (now (message .entry)) room (items (now (table .entry)) at) (stateAt cursor (now (values .entry)) (now (packed .entry))) (now (values .exit)) (now (packed .exit)) r ⌝ }
+{
+    let begun = read_begin::begin(&*table, at, &*message, values, packed, room, cursor);
     match begun {
         Begun::Done(next) => Step::Past(next),
         Begun::Run(count, row, next) => read_run(
-            table,
+            &*table,
             at,
             row,
             count,
-            message,
+            &*message,
             values,
             packed,
             room,
             next,
         ),
-        Begun::Branch(row, next) => read_row(table, row, message, values, packed, room, next),
+        Begun::Numbers(count, row, next) => read_leaf::numbers(
+            &*table,
+            row,
+            count,
+            &*message,
+            values,
+            packed,
+            room,
+            next,
+        ),
         Begun::Fields(mask, next) => read_fields(
-            table,
+            &*table,
             at,
             mask,
-            message,
+            &*message,
             values,
             packed,
             room,
@@ -75,7 +106,7 @@ fn read_run(
     let mut done = 0;
     let mut here = cursor;
     while done < count {
-        let step = read_row(table, row, message, values, packed, room, here);
+        let step = read_row(&*table, row, &*message, values, packed, room, here);
         let Step::Past(next) = step else {
             return step;
         };
@@ -105,9 +136,19 @@ fn read_fields(
     while field < fields {
         let row = Row::field_at(table, at, field);
         let present = parts::is_marked(mask, fields, field);
-        let step = read_field(table, at, row, present, message, values, packed, room, here);
+        let step = read_field(
+            &*table,
+            at,
+            row,
+            present,
+            &*message,
+            values,
+            packed,
+            room,
+            here,
+        );
         let Step::Past(next) = step else {
-            return step;
+            return Step::again(step);
         };
         here = next;
         field += 1;
@@ -115,7 +156,8 @@ fn read_fields(
     Step::Past(here)
 }
 
-// A field, where it is present: the row at an offset before `at`.
+// A field, where it is present: the row at an offset before `at`. One that refers to no other row is read here: most fields are
+// such, and a call for each of them takes longer than reading it.
 fn read_field(
     table: &[u8],
     at: usize,
@@ -130,9 +172,14 @@ fn read_field(
     requires { ⌜ Obeys (now table) × Starts (now table) at × Earlier (now table) at row × (length (now message) ≤ mostOctets) ⌝ }
     ensures { λ r. ⌜ Reads (now (message .entry)) room (fieldIf present (items (now (table .entry)) row)) (stateAt cursor (now (values .entry)) (now (packed .entry))) (now (values .exit)) (now (packed .exit)) r ⌝ }
 {
-    if present {
-        read_row(table, row, message, values, packed, room, cursor)
-    } else {
-        Step::Past(cursor)
+    if !present {
+        return Step::Past(cursor);
+    }
+    let kind = Row::kind_at(table, row);
+    match kind {
+        Row::NUMBER => read_leaf::number(&*table, row, &*message, values, packed, room, cursor),
+        Row::VARIABLE => read_leaf::variable(&*message, values, packed, room, cursor),
+        Row::OCTETS => read_leaf::octets(&*table, row, &*message, values, packed, room, cursor),
+        _ => read_row(&*table, row, &*message, values, packed, room, cursor),
     }
 }

@@ -12,7 +12,7 @@ use Rattle.parts.proofs.Records.{leftAfter, flagsBehind, fieldsBehind, record-f
 use Rattle.write_begin.proofs.Begun.{the-type}
 use Rattle.write_steps.specs.declared.Cursor.{Cursor}
 use Rattle.write_begin.specs.declared.Begun.{Begun}
-use Rattle.write_begin.specs.declared.Begun.the-variants.{Done, Run, Branch, Fields, Refused}
+use Rattle.write_begin.specs.declared.Begun.the-variants.{Done, Run, Numbers, Fields, Refused}
 use Rattle.write_steps.specs.Writes.{State, stateAt, Continues}
 use Rattle.write_begin.specs.Begins.{Begins, Marks}
 use Rattle.write_steps.proofs.Flow.{continues-trans, continues-same}
@@ -32,7 +32,7 @@ module _ {list : List ℤ} {start here : State} (t : List ℕ) (o i flag mask : 
       → Begins t o list (items t o) start output begun
   no-mark (Done to) output k m = absurd m
   no-mark (Run count row to) output k m = absurd m
-  no-mark (Branch row to) output k m = absurd m
+  no-mark (Numbers count row to) output k m = absurd m
   no-mark (Fields marked to) output k m = absurd (miss (0 ∷ 1 ∷ 2 ∷ 4 ∷ []) 3 tt k)
   no-mark (Refused refusal) output k m =
       continues-trans f (continues-same (record-flag t o i flag mask l small ef)) .complete output _ (m (flagsBehind t o i) (fieldsBehind t o i mask))

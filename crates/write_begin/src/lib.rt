@@ -1,5 +1,6 @@
-// The beginning of a row: the items that are its own. All of them where it refers to no other row (write_leaf), else the length
-// of a counted run, the presence values of a record, the index of a choice; and what they leave to be written.
+// The beginning of a row. Choices come first: each is an index, which leaves the row of its branch. Then the items that are the
+// row's own: all of them where it refers to no other row (write_leaf), else the length of a counted run or the presence values of
+// a record; and what they leave to be written.
 use answer::Refusal;
 use row::Row;
 use write_steps::Cursor;
@@ -13,14 +14,20 @@ ghost use Rattle.octets.specs.Numbers.{u16, u32};
 ghost use Rattle.rules.specs.Rules.{Obeys, Starts};
 ghost use Rattle.encoding.specs.Rows.{items};
 ghost use Rattle.write_steps.specs.Writes.{listIn, stateAt};
-ghost use Rattle.write_begin.specs.Begins.{Begins, Marks, wholeOf};
+ghost use Rattle.write_begin.specs.Begins.{Begins, Marks, Chooses, Leads, NoChoice, runOf, wholeOf};
 
-// What a row's own items leave to be written: nothing, a run of the row at an offset, the row at an offset, the fields of the
-// record that a mask marks as present (the first field on top); or the refusal.
+// Where choices lead: the row at an offset, which is left to be written; or the refusal.
+pub enum Chosen {
+    Row(usize, Cursor),
+    Refused(Refusal),
+}
+
+// What a row's own items leave to be written: nothing, a run of the row at an offset, numbers of the number row at an offset, the
+// fields of the record that a mask marks as present (the first field on top); or the refusal.
 pub enum Begun {
     Done(Cursor),
     Run(usize, usize, Cursor),
-    Branch(usize, Cursor),
+    Numbers(usize, usize, Cursor),
     Fields(u32, Cursor),
     Refused(Refusal),
 }
@@ -33,6 +40,17 @@ fn whole(step: Step) -> Begun
         Step::Past(next) => Begun::Done(next),
         Step::Refused(refusal) => Begun::Refused(refusal),
     }
+}
+
+// A run of the row at an offset: of numbers, where it is a number row.
+fn run_of(table: &[u8], count: usize, row: usize, next: Cursor) -> Begun
+    requires { ⌜ row + 4 ≤ length (now table) ⌝ }
+    ensures { λ r. ⌜ r ≡ runOf (now (table .entry)) count row next ⌝ }
+{
+    if Row::kind_at(table, row) == Row::NUMBER {
+        return Begun::Numbers(count, row, next);
+    }
+    Begun::Run(count, row, next)
 }
 
 // A counted run: a length, which leaves that many items of the row that it refers to.
@@ -58,33 +76,57 @@ fn begin_counted(
     let Step::Past(next) = step else {
         return whole(step);
     };
-    Begun::Run(item::count_of(value), row, next)
+    run_of(table, item::count_of(value), row, next)
 }
 
 // A choice: an index, which leaves the row of its branch.
-fn begin_choice(
+fn choose(
     table: &[u8],
     at: usize,
     values: &[i64],
     packed: &[u8],
     output: &mut [u8],
     cursor: Cursor,
-) -> Begun
+) -> Chosen
     requires { ⌜ Obeys (now table) × Starts (now table) at × (u16 (now table) (at + 2) ≡ 6) × (length (now output) ≤ mostOctets) ⌝ }
-    ensures { λ r. ⌜ Begins (now (table .entry)) at (listIn (now (values .entry)) (now (packed .entry))) (items (now (table .entry)) at) (stateAt cursor (now (output .entry))) (now (output .exit)) r ⌝ }
+    ensures { λ r. ⌜ Chooses (now (table .entry)) at (listIn (now (values .entry)) (now (packed .entry))) (stateAt cursor (now (output .entry))) (now (output .exit)) r ⌝ }
 {
     let given = write_steps::next_value(values, packed, cursor.index);
     let Given::Value(value, after) = given else {
-        return Begun::Refused(write_steps::missing(cursor.index));
+        return Chosen::Refused(write_steps::missing(cursor.index));
     };
     let branches = Row::count_at(table, at);
     let put = write_item::index(output, cursor.place, table, at + Row::HEAD, branches, value);
     let step = write_steps::moved(put, cursor.index, after);
-    let Step::Past(next) = step else {
-        return whole(step);
-    };
-    let row = Row::branch_at(table, at, item::count_of(value));
-    Begun::Branch(row, next)
+    match step {
+        Step::Past(next) => Chosen::Row(Row::branch_at(table, at, item::count_of(value)), next),
+        Step::Refused(refusal) => Chosen::Refused(refusal),
+    }
+}
+
+// The row that the choices from an offset on lead to: the row there, where it is no choice.
+pub fn follow(
+    table: &[u8],
+    at: usize,
+    values: &[i64],
+    packed: &[u8],
+    output: &mut [u8],
+    cursor: Cursor,
+) -> Chosen
+    requires { ⌜ Obeys (now table) × Starts (now table) at × (length (now output) ≤ mostOctets) ⌝ }
+    ensures { λ r. ⌜ Leads (now (table .entry)) at (listIn (now (values .entry)) (now (packed .entry))) (stateAt cursor (now (output .entry))) (now (output .exit)) r ⌝ }
+{
+    let mut row = at;
+    let mut here = cursor;
+    while Row::kind_at(table, row) == Row::CHOICE {
+        let chosen = choose(table, row, values, packed, output, here);
+        let Chosen::Row(branch, next) = chosen else {
+            return chosen;
+        };
+        row = branch;
+        here = next;
+    }
+    Chosen::Row(row, here)
 }
 
 // A field's mark behind those before it: set where the field is always there, else by its presence value, whose bit is written.
@@ -146,7 +188,7 @@ fn begin_record(
     Begun::Fields(mask, here)
 }
 
-// The row at an offset: its own items, and what they leave.
+// The row at an offset, which is no choice: its own items, and what they leave.
 pub fn begin(
     table: &[u8],
     at: usize,
@@ -155,21 +197,20 @@ pub fn begin(
     output: &mut [u8],
     cursor: Cursor,
 ) -> Begun
-    requires { ⌜ Obeys (now table) × Starts (now table) at × (length (now output) ≤ mostOctets) ⌝ }
+    requires { ⌜ Obeys (now table) × Starts (now table) at × NoChoice (now table) at × (length (now output) ≤ mostOctets) ⌝ }
     ensures { λ r. ⌜ Begins (now (table .entry)) at (listIn (now (values .entry)) (now (packed .entry))) (items (now (table .entry)) at) (stateAt cursor (now (output .entry))) (now (output .exit)) r ⌝ }
 {
     let kind = Row::kind_at(table, at);
     match kind {
-        Row::NUMBER => whole(write_leaf::number(table, at, values, packed, output, cursor)),
+        Row::NUMBER => Begun::Numbers(1, at, cursor),
         Row::VARIABLE => whole(write_leaf::variable(values, packed, output, cursor)),
         Row::FIXED_RUN => {
             let count = Row::count_at(table, at);
             let row = Row::run_at(table, at);
-            Begun::Run(count, row, cursor)
+            run_of(table, count, row, cursor)
         }
         Row::COUNTED_RUN => begin_counted(table, at, values, packed, output, cursor),
         Row::RECORD => begin_record(table, at, values, packed, output, cursor),
-        Row::CHOICE => begin_choice(table, at, values, packed, output, cursor),
         _ => whole(write_leaf::octets(table, at, values, packed, output, cursor)),
     }
 }

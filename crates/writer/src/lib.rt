@@ -2,6 +2,7 @@
 // A row's own items come first (write_begin); then the rows that it refers to, each earlier in the table.
 use row::Row;
 use write_begin::Begun;
+use write_begin::Chosen;
 use write_steps::Cursor;
 use write_steps::Step;
 ghost use mathlib.Core.Path.{_≡_};
@@ -12,6 +13,7 @@ ghost use Rattle.octets.specs.Numbers.{u16};
 ghost use Rattle.rules.specs.Rules.{Obeys, Starts, Earlier};
 ghost use Rattle.items.specs.Items.{times};
 ghost use Rattle.encoding.specs.Rows.{items};
+ghost use Rattle.write_begin.specs.Begins.{NoChoice};
 ghost use Rattle.parts.specs.Parts.{markedFields, fieldIf};
 ghost use Rattle.write_steps.specs.Writes.{Writes, listIn, stateAt};
 
@@ -27,21 +29,56 @@ pub fn write_row(
     requires { ⌜ Obeys (now table) × Starts (now table) at × (length (now output) ≤ mostOctets) ⌝ }
     ensures { λ r. ⌜ Writes (listIn (now (values .entry)) (now (packed .entry))) (items (now (table .entry)) at) (stateAt cursor (now (output .entry))) (now (output .exit)) r ⌝ }
 {
-    let begun = write_begin::begin(table, at, values, packed, output, cursor);
+    let chosen = write_begin::follow(&*table, at, &*values, &*packed, output, cursor);
+    match chosen {
+        Chosen::Row(row, next) => write_chosen(&*table, row, &*values, &*packed, output, next),
+        Chosen::Refused(refusal) => Step::Refused(refusal),
+    }
+}
+
+// The row at an offset, which is no choice.
+fn write_chosen(
+    table: &[u8],
+    at: usize,
+    values: &[i64],
+    packed: &[u8],
+    output: &mut [u8],
+    cursor: Cursor,
+) -> Step
+    requires { ⌜ Obeys (now table) × Starts (now table) at × NoChoice (now table) at × (length (now output) ≤ mostOctets) ⌝ }
+    ensures { λ r. ⌜ Writes (listIn (now (values .entry)) (now (packed .entry))) (items (now (table .entry)) at) (stateAt cursor (now (output .entry))) (now (output .exit)) r ⌝ }
+{
+    let begun = write_begin::begin(&*table, at, &*values, &*packed, output, cursor);
     match begun {
         Begun::Done(next) => Step::Past(next),
         Begun::Run(count, row, next) => write_run(
-            table,
+            &*table,
             at,
             row,
             count,
-            values,
-            packed,
+            &*values,
+            &*packed,
             output,
             next,
         ),
-        Begun::Branch(row, next) => write_row(table, row, values, packed, output, next),
-        Begun::Fields(mask, next) => write_fields(table, at, mask, values, packed, output, next),
+        Begun::Numbers(count, row, next) => write_leaf::numbers(
+            &*table,
+            row,
+            count,
+            &*values,
+            &*packed,
+            output,
+            next,
+        ),
+        Begun::Fields(mask, next) => write_fields(
+            &*table,
+            at,
+            mask,
+            &*values,
+            &*packed,
+            output,
+            next,
+        ),
         Begun::Refused(refusal) => Step::Refused(refusal),
     }
 }
@@ -63,7 +100,7 @@ fn write_run(
     let mut done = 0;
     let mut here = cursor;
     while done < count {
-        let step = write_row(table, row, values, packed, output, here);
+        let step = write_row(&*table, row, &*values, &*packed, output, here);
         let Step::Past(next) = step else {
             return step;
         };
@@ -92,9 +129,9 @@ fn write_fields(
     while field < fields {
         let row = Row::field_at(table, at, field);
         let present = parts::is_marked(mask, fields, field);
-        let step = write_field(table, at, row, present, values, packed, output, here);
+        let step = write_field(&*table, at, row, present, &*values, &*packed, output, here);
         let Step::Past(next) = step else {
-            return step;
+            return Step::again(step);
         };
         here = next;
         field += 1;
@@ -102,7 +139,7 @@ fn write_fields(
     Step::Past(here)
 }
 
-// A field, where it is present: the row at an offset before `at`.
+// A field, where it is present: the row at an offset before `at`. One that refers to no other row is written here, as in reading.
 fn write_field(
     table: &[u8],
     at: usize,
@@ -116,9 +153,14 @@ fn write_field(
     requires { ⌜ Obeys (now table) × Starts (now table) at × Earlier (now table) at row × (length (now output) ≤ mostOctets) ⌝ }
     ensures { λ r. ⌜ Writes (listIn (now (values .entry)) (now (packed .entry))) (fieldIf present (items (now (table .entry)) row)) (stateAt cursor (now (output .entry))) (now (output .exit)) r ⌝ }
 {
-    if present {
-        write_row(table, row, values, packed, output, cursor)
-    } else {
-        Step::Past(cursor)
+    if !present {
+        return Step::Past(cursor);
+    }
+    let kind = Row::kind_at(table, row);
+    match kind {
+        Row::NUMBER => write_leaf::number(&*table, row, &*values, &*packed, output, cursor),
+        Row::VARIABLE => write_leaf::variable(&*values, &*packed, output, cursor),
+        Row::OCTETS => write_leaf::octets(&*table, row, &*values, &*packed, output, cursor),
+        _ => write_row(&*table, row, &*values, &*packed, output, cursor),
     }
 }

@@ -7,12 +7,13 @@ use borrow.Author.Needs.{needs}
 use denote.Ref.{now}
 use Rattle.octets.specs.Numbers.{u16}
 use Rattle.item.specs.Code.{lengthWithin, natural}
-use Rattle.table.proofs.Obeyed.{counted-row}
+use Rattle.table.proofs.Obeyed.{earlier-starts, row-starts-inside, counted-row}
 use Rattle.items.specs.Items.{ask, times}
 use Rattle.encoding.specs.Rows.{items}
 use Rattle.encoding.proofs.RowItems.{items-counted}
 use Rattle.read_steps.specs.Reads.{stateAt}
 use Rattle.read_steps.proofs.Keeping.{Keeping, keeping, first-refused, first-kept}
+use Rattle.read_begin.proofs.Beginnings.{begins-run}
 use Rattle.read_begin.proofs.begin_counted.Statement.{statement}
 use Rattle.read_begin.proofs.begin_counted.Tie as tie
 
@@ -45,12 +46,21 @@ returns c =
     let told = c .before .enum-told .given .1 in
     rw (c .whole .ensures, told) (first-refused _ _ (row-items (kept .before .before .before .before .before .before .before .before .before)) (length-kept kept) told)
 
+run-of-requires : tie.Need-run-of-requires
+run-of-requires c κs =
+    let run = c .before .before .before .before .before .before .before .before .before .before .before in
+    let s = run .before .before .before .before .before in
+    let row = counted-row (s .pre .0) (s .pre .1) (s .pre .2) in
+    rw (run .run-at .ensures .0) (row-starts-inside (s .pre .0) (earlier-starts (s .pre .1) (row .2)) .0)
+
 returns-2 : tie.Need-returns-2
 returns-2 c =
-    let kept = c .before .before .before .before .before .before .before in
+    let counted = c .before in
+    let kept = counted .before .before .before .before .before .before .before in
     let s = kept .before .before .before .before .before .before .before .before .before in
-    rw (c .count-of .ensures, kept .before .before .before .before .run-at .ensures .0)
-    (counted-row (s .pre .0) (s .pre .1) (s .pre .2) .2, first-kept _ _ (row-items s) (length-kept kept) (c .before .before .step .given .1))
+    rw (c .run-of .ensures, counted .count-of .ensures, kept .before .before .before .before .run-at .ensures .0)
+    (begins-run (s .pre .0) (s .args .at) _ _ (s .pre .1 .1) (counted-row (s .pre .0) (s .pre .1) (s .pre .2) .2)
+    (first-kept _ _ (row-items s) (length-kept kept) (counted .before .before .step .given .1)))
 
 pub begin-counted-spec : {M : Type 1} → statement M
 begin-counted-spec =
@@ -68,6 +78,7 @@ begin-counted-spec =
     (λ c. search needs)
     returns
     (λ c κs. search needs)
+    run-of-requires
     (λ c. search needs)
     (λ c. search needs)
     returns-2)

@@ -9,13 +9,14 @@ use mir.Syntax.{w64}
 use mir.Val.{toZ, ofZ}
 use Rattle.octets.specs.Numbers.{u16}
 use Rattle.item.specs.Code.{lengthWithin, natural}
-use Rattle.table.proofs.Obeyed.{counted-row}
+use Rattle.table.proofs.Obeyed.{earlier-starts, row-starts-inside, counted-row}
 use Rattle.items.specs.Items.{ask, times}
 use Rattle.encoding.specs.Rows.{items}
 use Rattle.encoding.proofs.RowItems.{items-counted}
 use Rattle.item.proofs.Naturals.{held}
 use Rattle.write_steps.specs.Writes.{listIn, stateAt}
 use Rattle.write_steps.proofs.Putting.{Putting, putting, first-missing, first-refused, first-put}
+use Rattle.write_begin.proofs.Beginnings.{begins-run}
 use Rattle.write_begin.proofs.begin_counted.Statement.{statement}
 use Rattle.write_begin.proofs.begin_counted.Tie as tie
 
@@ -66,15 +67,23 @@ returns-2 c =
     let s = moved .before .before .before .before .before .before .before .before .before .before .before .before .before .before in
     rw (c .whole .ensures, c .before .enum-told2 .given .1) (first-refused _ _ (row-items s) (value-put moved) (c .before .enum-told2 .given .1))
 
+run-of-requires : tie.Need-run-of-requires
+run-of-requires c κs =
+    let run = c .before .before .before .before .before .before .before .before .before in
+    let s = run .before .before .before .before .before .before .before .before .before in
+    let row = counted-row (s .pre .0) (s .pre .1) (s .pre .2) in
+    rw (run .run-at .ensures .0) (row-starts-inside (s .pre .0) (earlier-starts (s .pre .1) (row .2)) .0)
+
 returns-3 : tie.Need-returns-3
 returns-3 c =
-    let moved = c .before .before .before .before in
+    let counted = c .before in
+    let moved = counted .before .before .before .before in
     let row = moved .before .before .before .before .before in
     let told = row .before .before in
     let s = told .before .before .before .before .before .before .before in
-    let t = now (s .args .table) in
-    rw (rw (value-held told) at (c .count-of .ensures), row .run-at .ensures .0)
-    (counted-row (s .pre .0) (s .pre .1) (s .pre .2) .2, first-put _ _ (row-items s) (value-put moved) (c .before .before .step .given .1))
+    rw (c .run-of .ensures, rw (value-held told) at (counted .count-of .ensures), row .run-at .ensures .0)
+    (begins-run (s .pre .0) (s .args .at) _ _ (s .pre .1 .1) (counted-row (s .pre .0) (s .pre .1) (s .pre .2) .2)
+    (first-put _ _ (row-items s) (value-put moved) (counted .before .before .step .given .1)))
 
 pub begin-counted-spec : {M : Type 1} → statement M
 begin-counted-spec =
@@ -96,5 +105,6 @@ begin-counted-spec =
     (λ c. search needs)
     returns-2
     (λ c κs. search needs)
+    run-of-requires
     (λ c. search needs)
     returns-3)

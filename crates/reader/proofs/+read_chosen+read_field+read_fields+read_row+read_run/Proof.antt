@@ -1,56 +1,79 @@
--- The readers of a row, of a run, of a record's fields and of one field, which call each other on earlier rows, meet their
--- contracts. The measure is four times the row's offset, and a little more by the function. The loops' invariant: reading the
--- whole comes to reading what is left.
+-- The readers of a row, of one that is no choice, of a run, of a record's fields and of one field, which call each other on
+-- earlier rows, meet their contracts. The measure is eight times the row's offset, and a little more by the function. The loops'
+-- invariant: reading the whole comes to reading what is left.
 -- Assumes nothing.
 use Prim.Native.Nat.{ℕ, suc, _+_, _-_, _*_, _≤_, _<_}
 use mathlib.Core.Bool.{false}
-use mathlib.Core.Path.{_≡_, refl, ap, _∙_}
+use mathlib.Core.Path.{_≡_, refl, sym, ap, _∙_}
 use native.Mathlib.Omega.{arith}
 use denote.Ref.{now}
 use lib.ListN.{length, getD}
 use Rattle.octets.specs.Numbers.{u16}
 use Rattle.bits.specs.Bits.{bitsOf}
-use Rattle.table.proofs.Obeyed.{earlier-starts, record-row}
+use Rattle.rules.specs.Rules.{Starts}
+use Rattle.table.proofs.Obeyed.{earlier-starts, row-starts-inside, number-row, variable-row, record-row}
 use Rattle.items.specs.Items.{_then_, times}
 use Rattle.encoding.specs.Rows.{items}
+use Rattle.encoding.proofs.RowItems.{items-number, items-variable}
 use Rattle.read_steps.specs.Reads.{stateAt, Continues}
 use Rattle.parts.specs.Parts.{markedFields, fieldIf}
 use Rattle.read_steps.proofs.Flow.{continues-trans, continues-same, continues-end, continues-part, refused-part, reads-nothing}
 use Rattle.items.proofs.Runs.{times-none, times-more}
 use Rattle.parts.proofs.Records.{fieldsFrom, fields-start, fields-end, fields-next}
 use borrow.Author.Needs.{needs}
+use borrow.Author.Tests.{not-true, not-false}
 use borrow.Fn.Kinds.{In}
 use borrow.Fn.PlainCycle.{Measures, is, falls, and}
+use Rattle.reader.proofs.read_chosen.Reads as read-chosen
+use Rattle.reader.proofs.read_chosen.Kinds as read-chosen-kinds
+use Rattle.reader.proofs.+read_chosen+read_field+read_fields+read_row+read_run.Lts-read_chosen as read-chosen-lts
 use Rattle.reader.proofs.read_field.Reads as read-field
 use Rattle.reader.proofs.read_field.Kinds as read-field-kinds
-use Rattle.reader.proofs.+read_field+read_fields+read_row+read_run.Lts-read_field as read-field-lts
+use Rattle.reader.proofs.+read_chosen+read_field+read_fields+read_row+read_run.Lts-read_field as read-field-lts
 use Rattle.reader.proofs.read_fields.Reads as read-fields
 use Rattle.reader.proofs.read_fields.Kinds as read-fields-kinds
-use Rattle.reader.proofs.+read_field+read_fields+read_row+read_run.Lts-read_fields as read-fields-lts
+use Rattle.reader.proofs.+read_chosen+read_field+read_fields+read_row+read_run.Lts-read_fields as read-fields-lts
 use Rattle.reader.proofs.read_row.Reads as read-row
 use Rattle.reader.proofs.read_row.Kinds as read-row-kinds
-use Rattle.reader.proofs.+read_field+read_fields+read_row+read_run.Lts-read_row as read-row-lts
+use Rattle.reader.proofs.+read_chosen+read_field+read_fields+read_row+read_run.Lts-read_row as read-row-lts
 use Rattle.reader.proofs.read_run.Reads as read-run
 use Rattle.reader.proofs.read_run.Kinds as read-run-kinds
-use Rattle.reader.proofs.+read_field+read_fields+read_row+read_run.Lts-read_run as read-run-lts
+use Rattle.reader.proofs.+read_chosen+read_field+read_fields+read_row+read_run.Lts-read_run as read-run-lts
+use Rattle.row.proofs.Row.kind_at.Reads as kind-at-reads
 use Rattle.row.proofs.Row.count_at.Reads as count-at-reads
 use Rattle.row.proofs.Row.field_at.Reads as field-at-reads
+use Rattle.read_steps.proofs.Step.again.Reads as again-reads
+use Rattle.read_leaf.proofs.number.Reads as number-reads
+use Rattle.read_leaf.proofs.numbers.Reads as numbers-reads
+use Rattle.read_leaf.proofs.variable.Reads as variable-reads
+use Rattle.read_leaf.proofs.octets.Reads as octets-reads
+use Rattle.read_begin.proofs.follow.Reads as follow-reads
 use Rattle.read_begin.proofs.begin.Reads as begin-reads
 use Rattle.parts.proofs.is_marked.Reads as is-marked-reads
-use Rattle.reader.proofs.+read_field+read_fields+read_row+read_run.{statement}
-use Rattle.reader.proofs.+read_field+read_fields+read_row+read_run.Tie.{close}
+use Rattle.reader.proofs.+read_chosen+read_field+read_fields+read_row+read_run.{statement}
+use Rattle.reader.proofs.+read_chosen+read_field+read_fields+read_row+read_run.Tie.{close}
+
+abbrev μ-read-chosen : Measures 4 read-chosen-kinds.ps ℕ
+μ-read-chosen κs a = a .1 .0 * 8 + 3
 
 abbrev μ-read-field : Measures 4 read-field-kinds.ps ℕ
-μ-read-field κs a = a .1 .0 * 4 + 1
+μ-read-field κs a = a .1 .0 * 8 + 1
 
 abbrev μ-read-fields : Measures 4 read-fields-kinds.ps ℕ
-μ-read-fields κs a = a .1 .0 * 4 + 2
+μ-read-fields κs a = a .1 .0 * 8 + 2
 
 abbrev μ-read-row : Measures 4 read-row-kinds.ps ℕ
-μ-read-row κs a = a .1 .0 * 4 + 3
+μ-read-row κs a = a .1 .0 * 8 + 4
 
 abbrev μ-read-run : Measures 4 read-run-kinds.ps ℕ
-μ-read-run κs a = a .1 .0 * 4 + 1
+μ-read-run κs a = a .1 .0 * 8 + 1
+
+abbrev read-chosen-at : ℕ → In 4 read-chosen-kinds.ps
+read-chosen-at t = and 4 read-chosen-kinds.ps (is 4 read-chosen-kinds.ps μ-read-chosen t) read-chosen.Pre
+
+abbrev read-chosen-below : ℕ → In 4 read-chosen-kinds.ps
+read-chosen-below t =
+    and 4 read-chosen-kinds.ps (falls 4 read-chosen-kinds.ps _<_ μ-read-chosen t) read-chosen.Pre
 
 abbrev read-field-at : ℕ → In 4 read-field-kinds.ps
 read-field-at t =
@@ -82,30 +105,73 @@ abbrev read-run-below : ℕ → In 4 read-run-kinds.ps
 read-run-below t =
     and 4 read-run-kinds.ps (falls 4 read-run-kinds.ps _<_ μ-read-run t) read-run.Pre
 
+abbrev read-chosen-known : ℕ → read-chosen-lts.Claims
+read-chosen-known t = (begin-reads.Asked, begin-reads.Learnt, read-run-below t, read-run.Post, numbers-reads.Asked, numbers-reads.Learnt, read-fields-below t, read-fields.Post)
+
 abbrev read-field-known : ℕ → read-field-lts.Claims
-read-field-known t = (read-row-below t, read-row.Post)
+read-field-known t = (kind-at-reads.Asked, kind-at-reads.Learnt, number-reads.Asked, number-reads.Learnt, variable-reads.Asked, variable-reads.Learnt, octets-reads.Asked, octets-reads.Learnt, read-row-below t, read-row.Post)
 
 abbrev read-fields-known : ℕ → read-fields-lts.Claims
-read-fields-known t = (count-at-reads.Asked, count-at-reads.Learnt, field-at-reads.Asked, field-at-reads.Learnt, is-marked-reads.Asked, is-marked-reads.Learnt, read-field-below t, read-field.Post)
+read-fields-known t = (count-at-reads.Asked, count-at-reads.Learnt, field-at-reads.Asked, field-at-reads.Learnt, is-marked-reads.Asked, is-marked-reads.Learnt, read-field-below t, read-field.Post, again-reads.Asked, again-reads.Learnt)
 
 abbrev read-row-known : ℕ → read-row-lts.Claims
-read-row-known t = (begin-reads.Asked, begin-reads.Learnt, read-run-below t, read-run.Post, read-row-below t, read-row.Post, read-fields-below t, read-fields.Post)
+read-row-known t = (follow-reads.Asked, follow-reads.Learnt, read-chosen-below t, read-chosen.Post)
 
 abbrev read-run-known : ℕ → read-run-lts.Claims
 read-run-known t = (read-row-below t, read-row.Post)
 
 -- ── one field ──
 
+read-field-returns : (t : ℕ) → read-field-lts.Need-returns (read-field-known t) (read-field-at t) read-field.Post
+read-field-returns t c = rw (not-true (c .before .before .before .before .args .present) (c .if1 .taken)) reads-nothing
+
+-- the field's row
+field-starts : (t : ℕ) (c : read-field-lts.Start (read-field-known t) (read-field-at t) read-field.Post) → Starts (now (c .args .table)) (c .args .row)
+field-starts t c = earlier-starts (c .pre .1 .1) (c .pre .1 .2)
+
+read-field-kind-at-requires : (t : ℕ) → read-field-lts.Need-kind-at-requires (read-field-known t) (read-field-at t) read-field.Post
+read-field-kind-at-requires t c κs =
+    let s = c .before .before .before .before in
+    row-starts-inside (s .pre .1 .0) (field-starts t s) .0
+
+read-field-number-requires : (t : ℕ) → read-field-lts.Need-number-requires (read-field-known t) (read-field-at t) read-field.Post
+read-field-number-requires t c κs =
+    let s = c .before .before .before .before .before .before .before .before in
+    (number-row (s .pre .1 .0) (field-starts t s) (sym (c .before .before .before .kind-at .ensures .0) ∙ c .before .before .match .keys1) .1, s .pre .1 .3)
+
+read-field-octets-requires : (t : ℕ) → read-field-lts.Need-octets-requires (read-field-known t) (read-field-at t) read-field.Post
+read-field-octets-requires t c κs =
+    let s = c .before .before .before .before .before .before .before .before in
+    (s .pre .1 .0, field-starts t s, sym (c .before .before .before .kind-at .ensures .0) ∙ c .before .before .match .keys3, s .pre .1 .3)
+
 read-field-read-row-requires : (t : ℕ) → read-field-lts.Need-read-row-requires (read-field-known t) (read-field-at t) read-field.Post
 read-field-read-row-requires t c κs =
-    let s = c .before .before .before .before .before .before in
-    (omega (arith, s .pre .0, s .pre .1 .2 .1), (s .pre .1 .0, earlier-starts (s .pre .1 .1) (s .pre .1 .2), s .pre .1 .3))
-
-read-field-returns : (t : ℕ) → read-field-lts.Need-returns (read-field-known t) (read-field-at t) read-field.Post
-read-field-returns t c = rw (c .before .before .before .before .before .before .if1 .taken) (c .before .before .before .read-row .ensures)
+    let s = c .before .before .before .before .before .before .before .before in
+    (omega (arith, s .pre .0, s .pre .1 .2 .1), (s .pre .1 .0, field-starts t s, s .pre .1 .3))
 
 read-field-returns-2 : (t : ℕ) → read-field-lts.Need-returns-2 (read-field-known t) (read-field-at t) read-field.Post
-read-field-returns-2 t c = rw (c .if1 .left) reads-nothing
+read-field-returns-2 t c =
+    let tested = c .before .before .before .before .before .before .before .before in
+    let s = tested .before .before .before .before in
+    let k = sym (c .before .before .before .before .before .before .before .kind-at .ensures .0) ∙ c .before .before .before .before .before .before .match .keys1 in
+    rw (not-false (s .args .present) (tested .if1 .left), items-number (now (s .args .table)) (s .args .row) _ _ (number-row (s .pre .1 .0) (field-starts t s) k .0)) (c .before .before .before .number .ensures)
+
+read-field-returns-3 : (t : ℕ) → read-field-lts.Need-returns-3 (read-field-known t) (read-field-at t) read-field.Post
+read-field-returns-3 t c =
+    let tested = c .before .before .before .before .before .before .before .before in
+    let s = tested .before .before .before .before in
+    let k = sym (c .before .before .before .before .before .before .before .kind-at .ensures .0) ∙ c .before .before .before .before .before .before .match .keys2 in
+    rw (not-false (s .args .present) (tested .if1 .left), items-variable (now (s .args .table)) (s .args .row) (variable-row (s .pre .1 .0) (field-starts t s) k)) (c .before .before .before .variable .ensures)
+
+read-field-returns-4 : (t : ℕ) → read-field-lts.Need-returns-4 (read-field-known t) (read-field-at t) read-field.Post
+read-field-returns-4 t c =
+    let tested = c .before .before .before .before .before .before .before .before in
+    rw (not-false (tested .before .before .before .before .args .present) (tested .if1 .left)) (c .before .before .before .octets .ensures)
+
+read-field-returns-5 : (t : ℕ) → read-field-lts.Need-returns-5 (read-field-known t) (read-field-at t) read-field.Post
+read-field-returns-5 t c =
+    let tested = c .before .before .before .before .before .before .before .before in
+    rw (not-false (tested .before .before .before .before .args .present) (tested .if1 .left)) (c .before .before .before .read-row .ensures)
 
 -- ── the fields of a record ──
 
@@ -169,8 +235,11 @@ next-field t c =
 
 read-fields-returns : (t : ℕ) → read-fields-lts.Need-returns (read-fields-known t) (read-fields-at t) read-fields.Post read-fields-Inv-loop read-fields-μ-loop
 read-fields-returns t c =
-    let marked = c .before .before .before .before .before .before .before .before in
-    continues-trans (marked .before .before .before .loop .inv .3) (continues-same (next-field t marked)) .complete _ _ _ (refused-part _ _ (c .before .before .before .before .before .read-field .ensures) (c .enum-told .given .1))
+    let told = c .before in
+    let marked = told .before .before .before .before .before .before .before .before in
+    rw (c .again .ensures)
+    (continues-trans (marked .before .before .before .loop .inv .3) (continues-same (next-field t marked)) .complete _ _ _
+    (refused-part _ _ (told .before .before .before .before .before .read-field .ensures) (told .enum-told .given .1)))
 
 read-fields-loop-again : (t : ℕ) → read-fields-lts.Need-loop-again (read-fields-known t) (read-fields-at t) read-fields.Post read-fields-Inv-loop read-fields-μ-loop
 read-fields-loop-again t c =
@@ -190,49 +259,68 @@ read-fields-returns-2 t c =
 
 -- ── a row ──
 
-read-row-begin-requires : (t : ℕ) → read-row-lts.Need-begin-requires (read-row-known t) (read-row-at t) read-row.Post
-read-row-begin-requires t c κs = c .before .before .before .before .before .pre .1
+read-row-follow-requires : (t : ℕ) → read-row-lts.Need-follow-requires (read-row-known t) (read-row-at t) read-row.Post
+read-row-follow-requires t c κs = c .before .before .before .before .before .pre .1
 
-read-row-read-run-requires : (t : ℕ) → read-row-lts.Need-read-run-requires (read-row-known t) (read-row-at t) read-row.Post
-read-row-read-run-requires t c κs =
+read-row-read-chosen-requires : (t : ℕ) → read-row-lts.Need-read-chosen-requires (read-row-known t) (read-row-at t) read-row.Post
+read-row-read-chosen-requires t c κs =
     let s = c .before .before .before .before .before .before .before .before .before .before .before .before .before .before in
-    let b = rw (c .before .before .before .begun2 .given .1) at (c .before .before .before .before .before .before .before .before .begin .ensures) in
-    (omega (arith, s .pre .0), (s .pre .1 .0, s .pre .1 .1, b .0, s .pre .1 .2))
-
-read-row-read-row-requires : (t : ℕ) → read-row-lts.Need-read-row-requires (read-row-known t) (read-row-at t) read-row.Post
-read-row-read-row-requires t c κs =
-    let s = c .before .before .before .before .before .before .before .before .before .before .before .before .before .before in
-    let b = rw (c .before .before .before .begun3 .given .1) at (c .before .before .before .before .before .before .before .before .begin .ensures) in
-    (omega (arith, s .pre .0, b .0 .1), (s .pre .1 .0, earlier-starts (s .pre .1 .1) (b .0), s .pre .1 .2))
-
-read-row-read-fields-requires : (t : ℕ) → read-row-lts.Need-read-fields-requires (read-row-known t) (read-row-at t) read-row.Post
-read-row-read-fields-requires t c κs =
-    let s = c .before .before .before .before .before .before .before .before .before .before .before .before .before .before in
-    let b = rw (c .before .before .before .begun4 .given .1) at (c .before .before .before .before .before .before .before .before .begin .ensures) in
-    (omega (arith, s .pre .0), (s .pre .1 .0, s .pre .1 .1, b .0, b .1, s .pre .1 .2))
+    let f = rw (c .before .before .before .chosen .given .1) at (c .before .before .before .before .before .before .before .before .follow .ensures) in
+    (omega (arith, s .pre .0, f .1), (s .pre .1 .0, f .0, f .2, s .pre .1 .2))
 
 read-row-returns : (t : ℕ) → read-row-lts.Need-returns (read-row-known t) (read-row-at t) read-row.Post
 read-row-returns t c =
+    let f = rw (c .before .before .before .before .before .before .before .chosen .given .1) at (c .before .before .before .before .before .before .before .before .before .before .before .before .follow .ensures) in
+    f .3 .complete _ _ _ (c .before .before .before .read-chosen .ensures)
+
+read-row-returns-2 : (t : ℕ) → read-row-lts.Need-returns-2 (read-row-known t) (read-row-at t) read-row.Post
+read-row-returns-2 t c = rw (c .before .chosen2 .given .1) at (c .before .before .before .before .before .before .follow .ensures)
+
+-- ── a row that is no choice ──
+
+read-chosen-begin-requires : (t : ℕ) → read-chosen-lts.Need-begin-requires (read-chosen-known t) (read-chosen-at t) read-chosen.Post
+read-chosen-begin-requires t c κs = c .before .before .before .before .before .pre .1
+
+read-chosen-read-run-requires : (t : ℕ) → read-chosen-lts.Need-read-run-requires (read-chosen-known t) (read-chosen-at t) read-chosen.Post
+read-chosen-read-run-requires t c κs =
+    let s = c .before .before .before .before .before .before .before .before .before .before .before .before .before .before in
+    let b = rw (c .before .before .before .begun2 .given .1) at (c .before .before .before .before .before .before .before .before .begin .ensures) in
+    (omega (arith, s .pre .0), (s .pre .1 .0, s .pre .1 .1, b .0, s .pre .1 .3))
+
+read-chosen-numbers-requires : (t : ℕ) → read-chosen-lts.Need-numbers-requires (read-chosen-known t) (read-chosen-at t) read-chosen.Post
+read-chosen-numbers-requires t c κs =
+    let s = c .before .before .before .before .before .before .before .before .before .before .before .before .before .before in
+    let b = rw (c .before .before .before .begun3 .given .1) at (c .before .before .before .before .before .before .before .before .begin .ensures) in
+    (b .0, s .pre .1 .3)
+
+read-chosen-read-fields-requires : (t : ℕ) → read-chosen-lts.Need-read-fields-requires (read-chosen-known t) (read-chosen-at t) read-chosen.Post
+read-chosen-read-fields-requires t c κs =
+    let s = c .before .before .before .before .before .before .before .before .before .before .before .before .before .before in
+    let b = rw (c .before .before .before .begun4 .given .1) at (c .before .before .before .before .before .before .before .before .begin .ensures) in
+    (omega (arith, s .pre .0), (s .pre .1 .0, s .pre .1 .1, b .0, b .1, s .pre .1 .3))
+
+read-chosen-returns : (t : ℕ) → read-chosen-lts.Need-returns (read-chosen-known t) (read-chosen-at t) read-chosen.Post
+read-chosen-returns t c =
     let b = rw (c .before .begun .given .1) at (c .before .before .before .before .before .before .begin .ensures) in
     continues-end b
 
-read-row-returns-2 : (t : ℕ) → read-row-lts.Need-returns-2 (read-row-known t) (read-row-at t) read-row.Post
-read-row-returns-2 t c =
+read-chosen-returns-2 : (t : ℕ) → read-chosen-lts.Need-returns-2 (read-chosen-known t) (read-chosen-at t) read-chosen.Post
+read-chosen-returns-2 t c =
     let b = rw (c .before .before .before .before .before .before .before .begun2 .given .1) at (c .before .before .before .before .before .before .before .before .before .before .before .before .begin .ensures) in
     b .1 .complete _ _ _ (c .before .before .before .read-run .ensures)
 
-read-row-returns-3 : (t : ℕ) → read-row-lts.Need-returns-3 (read-row-known t) (read-row-at t) read-row.Post
-read-row-returns-3 t c =
+read-chosen-returns-3 : (t : ℕ) → read-chosen-lts.Need-returns-3 (read-chosen-known t) (read-chosen-at t) read-chosen.Post
+read-chosen-returns-3 t c =
     let b = rw (c .before .before .before .before .before .before .before .begun3 .given .1) at (c .before .before .before .before .before .before .before .before .before .before .before .before .begin .ensures) in
-    b .1 .complete _ _ _ (c .before .before .before .read-row .ensures)
+    b .1 .complete _ _ _ (c .before .before .before .numbers .ensures)
 
-read-row-returns-4 : (t : ℕ) → read-row-lts.Need-returns-4 (read-row-known t) (read-row-at t) read-row.Post
-read-row-returns-4 t c =
+read-chosen-returns-4 : (t : ℕ) → read-chosen-lts.Need-returns-4 (read-chosen-known t) (read-chosen-at t) read-chosen.Post
+read-chosen-returns-4 t c =
     let b = rw (c .before .before .before .before .before .before .before .begun4 .given .1) at (c .before .before .before .before .before .before .before .before .before .before .before .before .begin .ensures) in
     b .2 .complete _ _ _ (c .before .before .before .read-fields .ensures)
 
-read-row-returns-5 : (t : ℕ) → read-row-lts.Need-returns-5 (read-row-known t) (read-row-at t) read-row.Post
-read-row-returns-5 t c = rw (c .before .begun5 .given .1) at (c .before .before .before .before .before .before .begin .ensures)
+read-chosen-returns-5 : (t : ℕ) → read-chosen-lts.Need-returns-5 (read-chosen-known t) (read-chosen-at t) read-chosen.Post
+read-chosen-returns-5 t c = rw (c .before .begun5 .given .1) at (c .before .before .before .before .before .before .begin .ensures)
 
 -- ── a run ──
 
@@ -283,14 +371,58 @@ read-run-returns-2 t c =
     let loop = c .before .loop in
     continues-end (continues-trans (loop .inv .3) (continues-same (times-none (a .count - loop .done) (items (now (a .table)) (a .row)) (omega arith))))
 
-pub +read-field+read-fields+read-row+read-run-spec : {M : Type 1} → statement M
-+read-field+read-fields+read-row+read-run-spec =
-    close μ-read-field μ-read-fields μ-read-row μ-read-run (λ t. read-field-lts.spec (read-field-known t) (read-field-at t) read-field.Post
+pub +read-chosen+read-field+read-fields+read-row+read-run-spec : {M : Type 1} → statement M
++read-chosen+read-field+read-fields+read-row+read-run-spec =
+    close
+    μ-read-chosen
+    μ-read-field
+    μ-read-fields
+    μ-read-row
+    μ-read-run
+    (λ t. read-chosen-lts.spec (read-chosen-known t) (read-chosen-at t) read-chosen.Post
+    (read-chosen-begin-requires t)
+    (λ c. search needs)
+    (λ c. search needs)
+    (read-chosen-read-run-requires t)
+    (λ c. search needs)
+    (read-chosen-numbers-requires t)
+    (λ c. search needs)
+    (read-chosen-read-fields-requires t)
+    (λ c. search needs)
+    (λ c. search needs)
+    (λ c. search needs)
+    (read-chosen-returns t)
+    (λ c. search needs)
+    (λ c. search needs)
+    (read-chosen-returns-2 t)
+    (λ c. search needs)
+    (λ c. search needs)
+    (read-chosen-returns-3 t)
+    (λ c. search needs)
+    (λ c. search needs)
+    (read-chosen-returns-4 t)
+    (λ c. search needs)
+    (λ c. search needs)
+    (read-chosen-returns-5 t))
+    (λ t. read-field-lts.spec (read-field-known t) (read-field-at t) read-field.Post
+    (read-field-returns t)
+    (read-field-kind-at-requires t)
+    (read-field-number-requires t)
+    (λ c κs. search needs)
+    (read-field-octets-requires t)
     (read-field-read-row-requires t)
     (λ c. search needs)
     (λ c. search needs)
-    (read-field-returns t)
-    (read-field-returns-2 t))
+    (read-field-returns-2 t)
+    (λ c. search needs)
+    (λ c. search needs)
+    (read-field-returns-3 t)
+    (λ c. search needs)
+    (λ c. search needs)
+    (read-field-returns-4 t)
+    (λ c. search needs)
+    (λ c. search needs)
+    (read-field-returns-5 t))
     (λ t. read-fields-lts.spec (read-fields-known t) (read-fields-at t) read-fields.Post
     read-fields-Inv-loop
     read-fields-μ-loop
@@ -301,6 +433,7 @@ pub +read-field+read-fields+read-row+read-run-spec : {M : Type 1} → statement 
     (read-fields-read-field-requires t)
     (λ c. search needs)
     (λ c. search needs)
+    (λ c κs. search needs)
     (λ c. search needs)
     (λ c. search needs)
     (read-fields-returns t)
@@ -311,32 +444,17 @@ pub +read-field+read-fields+read-row+read-run-spec : {M : Type 1} → statement 
     (λ c. search needs)
     (read-fields-returns-2 t))
     (λ t. read-row-lts.spec (read-row-known t) (read-row-at t) read-row.Post
-    (read-row-begin-requires t)
+    (read-row-follow-requires t)
     (λ c. search needs)
-    (λ c. search needs)
-    (read-row-read-run-requires t)
-    (λ c. search needs)
-    (read-row-read-row-requires t)
-    (λ c. search needs)
-    (read-row-read-fields-requires t)
+    (read-row-read-chosen-requires t)
     (λ c. search needs)
     (λ c. search needs)
     (λ c. search needs)
     (read-row-returns t)
     (λ c. search needs)
     (λ c. search needs)
-    (read-row-returns-2 t)
-    (λ c. search needs)
-    (λ c. search needs)
-    (read-row-returns-3 t)
-    (λ c. search needs)
-    (λ c. search needs)
-    (read-row-returns-4 t)
-    (λ c. search needs)
-    (λ c. search needs)
-    (read-row-returns-5 t))
-    λ t. read-run-lts.spec
-    (read-run-known t) (read-run-at t) read-run.Post
+    (read-row-returns-2 t))
+    λ t. read-run-lts.spec (read-run-known t) (read-run-at t) read-run.Post
     read-run-Inv-loop
     read-run-μ-loop
     (read-run-loop-holds t)

@@ -1,4 +1,4 @@
--- `read_begin::begin_choice` meets its contract. An index, read and kept, leaves the row of its branch.
+-- `read_begin::choose` meets its contract. An index, read and kept, leaves the row of its branch.
 -- Assumes nothing.
 use Prim.Native.Nat.{ℕ, _+_}
 use mathlib.Core.Path.{_≡_, ap}
@@ -18,8 +18,8 @@ use Rattle.parts.proofs.Choices.{Chosen, chosen}
 use Rattle.read_steps.specs.Reads.{stateAt, valueOf}
 use Rattle.read_steps.proofs.Flow.{continues-trans, continues-same}
 use Rattle.read_steps.proofs.Keeping.{Keeping, keeping, kept-allowed, first-refused, first-kept}
-use Rattle.read_begin.proofs.begin_choice.Statement.{statement}
-use Rattle.read_begin.proofs.begin_choice.Tie as tie
+use Rattle.read_begin.proofs.choose.Statement.{statement}
+use Rattle.read_begin.proofs.choose.Tie as tie
 
 -- what the row asks for
 row-items : (s : tie.Start) → let t = now (s .args .table) in let at = s .args .at in
@@ -54,25 +54,24 @@ branch c =
     rw (c .count-of .ensures)
     (chosen (s .pre .0) (s .pre .1) (s .pre .2) (valueOf (kept .before .before .before .index .result)) (kept-allowed (index-kept kept) (c .before .before .step .given .1)))
 
-returns : tie.Need-returns
-returns c =
-    let kept = c .before .before .before .before .before .before in
-    let told = c .before .enum-told .given .1 in
-    rw (c .whole .ensures, told) (first-refused _ _ (row-items (kept .before .before .before .before .before .before .before .before)) (index-kept kept) told)
-
 branch-at-requires : tie.Need-branch-at-requires
 branch-at-requires c κs = omega (arith, branch c .inside)
 
-returns-2 : tie.Need-returns-2
-returns-2 c =
+returns : tie.Need-returns
+returns c =
     let counted = c .before in
     let kept = counted .before .before .before .before .before .before .before in
     let chosen = branch counted in
     rw (c .branch-at .ensures .0)
     (chosen .back, continues-trans (first-kept _ _ (row-items (kept .before .before .before .before .before .before .before .before)) (index-kept kept) (counted .before .before .step .given .1)) (continues-same (rw (← counted .count-of .ensures) (chosen .same))))
 
-pub begin-choice-spec : {M : Type 1} → statement M
-begin-choice-spec =
+returns-2 : tie.Need-returns-2
+returns-2 c =
+    let kept = c .before .before .before .before .before .before in
+    first-refused _ _ (row-items (kept .before .before .before .before .before .before .before .before)) (index-kept kept) (c .before .step2 .given .1)
+
+pub choose-spec : {M : Type 1} → statement M
+choose-spec =
     tie.close
     (tie.spec
     count-at-requires
@@ -80,13 +79,12 @@ begin-choice-spec =
     index-requires
     (λ c κs. search needs)
     (λ c. search needs)
-    (λ c. search needs)
     (λ c κs. search needs)
+    branch-at-requires
+    (λ c. search needs)
     (λ c. search needs)
     (λ c. search needs)
     returns
-    (λ c κs. search needs)
-    branch-at-requires
     (λ c. search needs)
     (λ c. search needs)
     returns-2)

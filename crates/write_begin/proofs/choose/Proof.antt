@@ -1,4 +1,4 @@
--- `write_begin::begin_choice` meets its contract. An index, put by its code, leaves the row of its branch.
+-- `write_begin::choose` meets its contract. An index, put by its code, leaves the row of its branch.
 -- Assumes nothing.
 use Prim.Native.Nat.{ℕ, _+_}
 use mathlib.Core.Path.{_≡_, ap}
@@ -21,8 +21,8 @@ use Rattle.parts.proofs.Choices.{Chosen, chosen}
 use Rattle.write_steps.specs.Writes.{listIn, stateAt}
 use Rattle.write_steps.proofs.Flow.{continues-trans, continues-same}
 use Rattle.write_steps.proofs.Putting.{Putting, putting, put-allowed, first-missing, first-refused, first-put}
-use Rattle.write_begin.proofs.begin_choice.Statement.{statement}
-use Rattle.write_begin.proofs.begin_choice.Tie as tie
+use Rattle.write_begin.proofs.choose.Statement.{statement}
+use Rattle.write_begin.proofs.choose.Tie as tie
 
 -- what the row asks for
 row-items : (s : tie.Start) → let t = now (s .args .table) in let at = s .args .at in
@@ -77,17 +77,11 @@ branch c =
     rw (rw (value-held told) at (c .count-of .ensures))
     (chosen (s .pre .0) (s .pre .1) (s .pre .2) v (put-allowed (value-put moved) (c .before .before .step .given .1)))
 
-returns-2 : tie.Need-returns-2
-returns-2 c =
-    let moved = c .before .before .before in
-    let s = moved .before .before .before .before .before .before .before .before .before .before .before .before .before in
-    rw (c .whole .ensures, c .before .enum-told2 .given .1) (first-refused _ _ (row-items s) (value-put moved) (c .before .enum-told2 .given .1))
-
 branch-at-requires : tie.Need-branch-at-requires
 branch-at-requires c κs = omega (arith, branch c .inside)
 
-returns-3 : tie.Need-returns-3
-returns-3 c =
+returns-2 : tie.Need-returns-2
+returns-2 c =
     let counted = c .before in
     let moved = counted .before .before .before .before in
     let told = moved .before .before .before .before .before .before in
@@ -97,8 +91,14 @@ returns-3 c =
     rw (c .branch-at .ensures .0)
     (chosen .back, continues-trans (first-put _ _ (row-items s) (value-put moved) (counted .before .before .step .given .1)) (continues-same (rw (← same) (chosen .same))))
 
-pub begin-choice-spec : {M : Type 1} → statement M
-begin-choice-spec =
+returns-3 : tie.Need-returns-3
+returns-3 c =
+    let moved = c .before .before .before in
+    let s = moved .before .before .before .before .before .before .before .before .before .before .before .before .before in
+    first-refused _ _ (row-items s) (value-put moved) (c .before .step2 .given .1)
+
+pub choose-spec : {M : Type 1} → statement M
+choose-spec =
     tie.close
     (tie.spec
     (λ c κs. search needs)
@@ -111,11 +111,10 @@ begin-choice-spec =
     index-requires
     (λ c κs. search needs)
     (λ c. search needs)
-    (λ c. search needs)
-    (λ c κs. search needs)
-    (λ c. search needs)
-    returns-2
     (λ c κs. search needs)
     branch-at-requires
+    (λ c. search needs)
+    (λ c. search needs)
+    returns-2
     (λ c. search needs)
     returns-3)
