@@ -1,6 +1,7 @@
 // What the benchmark calls of asn1c's code. A kind is the place of its type in the list below.
 #include <stdlib.h>
 
+#include <BitThenOctets.h>
 #include <Lm.h>
 #include <OctetNumbers.h>
 #include <Sam.h>
@@ -14,6 +15,7 @@ static asn_TYPE_descriptor_t *type_of(int kind)
         &asn_DEF_Sam,
         &asn_DEF_OctetNumbers,
         &asn_DEF_TwoOctetNumbers,
+        &asn_DEF_BitThenOctets,
     };
     return types[kind];
 }

@@ -2,7 +2,7 @@
 
 use std::process::Command;
 
-/// Reading and writing of eight messages in four ways, of two that have no name in two; seven LMs
+/// Reading and writing of eight messages in four ways, of three that have no name in two; seven LMs
 /// read straight; four fetches and three checks in two ways.
 #[test]
 fn each_call_gives_what_it_should() {
@@ -15,8 +15,8 @@ fn each_call_gives_what_it_should() {
         "{}",
         String::from_utf8_lossy(&output.stderr)
     );
-    let messages = 2 * (8 * 4 + 2 * 2) + 7;
-    let asn1c = if cfg!(feature = "asn1c") { 24 } else { 0 };
+    let messages = 2 * (8 * 4 + 3 * 2) + 7;
+    let asn1c = if cfg!(feature = "asn1c") { 26 } else { 0 };
     let told = format!("{} calls\n", messages + 4 * 2 + 3 * 2 + asn1c);
     assert_eq!(String::from_utf8_lossy(&output.stdout), told);
 }

@@ -32,6 +32,7 @@ impl Structure {
             Kind::Sam => 1,
             Kind::OctetNumbers => 2,
             Kind::TwoOctetNumbers => 3,
+            Kind::BitThenOctets => 4,
         };
         // SAFETY: pointer and length are those of a live slice, which is only read.
         let pointer = unsafe { asn1c_decode(kind, message.as_ptr(), message.len()) };

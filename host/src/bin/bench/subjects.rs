@@ -80,6 +80,7 @@ pub enum Kind {
     Sam,
     OctetNumbers,
     TwoOctetNumbers,
+    BitThenOctets,
 }
 
 impl Kind {
@@ -87,7 +88,7 @@ impl Kind {
         match self {
             Kind::Lm => Some(Name::Lm),
             Kind::Sam => Some(Name::Sam),
-            Kind::OctetNumbers | Kind::TwoOctetNumbers => None,
+            Kind::OctetNumbers | Kind::TwoOctetNumbers | Kind::BitThenOctets => None,
         }
     }
 
@@ -97,6 +98,7 @@ impl Kind {
             Kind::Sam => builtin::sam(),
             Kind::OctetNumbers => run_table(255),
             Kind::TwoOctetNumbers => run_table(65_535),
+            Kind::BitThenOctets => shifted_table(),
         }
     }
 }
@@ -106,6 +108,15 @@ fn run_table(span: u32) -> Vec<u8> {
     let mut table = Assembler::new();
     let number = table.number(0, span);
     table.counted_run(LENGTH_MOST as u16, number);
+    table.finish()
+}
+
+/// A table of octets behind one bit, so that none starts with an octet of the message.
+fn shifted_table() -> Vec<u8> {
+    let mut table = Assembler::new();
+    let bit = table.number(0, 1);
+    let octets = table.octets(LENGTH_MOST as u16);
+    table.record(&[(bit, false), (octets, false)]);
     table.finish()
 }
 
@@ -175,8 +186,15 @@ fn run_of(count: i64, bound: i64) -> Vec<i64> {
     values
 }
 
-fn messages() -> [Message; 10] {
-    use Kind::{Lm, OctetNumbers, Sam, TwoOctetNumbers};
+/// A bit, and so many octets behind it.
+fn shifted_octets(length: i64) -> Vec<i64> {
+    let mut values = vec![1, length];
+    values.extend((0..length).map(|at| at % 251));
+    values
+}
+
+fn messages() -> [Message; 11] {
+    use Kind::{BitThenOctets, Lm, OctetNumbers, Sam, TwoOctetNumbers};
 
     let p1 = vec![0, 0, 3, 0, 0, 32, 2, 72, 105];
     let p2 = vec![2, 0, 3, 1, 3, 1, 0, 1, 2, 0];
@@ -195,6 +213,11 @@ fn messages() -> [Message; 10] {
             "4,000 two-octet numbers",
             TwoOctetNumbers,
             run_of(4_000, 65_521),
+        ),
+        (
+            "1,400 octets behind a bit",
+            BitThenOctets,
+            shifted_octets(1_400),
         ),
     ]
     .map(|(title, kind, values)| Message::new(title, kind, values))
