@@ -6,35 +6,41 @@ use crate::linked::{self, Numbers};
 pub use crate::codec::Answer;
 
 /// Whether the table obeys the rules of document 01.
+#[inline]
 pub fn check(table: &[u8]) -> Answer {
     answer(|numbers| linked::check(table, numbers))
 }
 
 /// Reads the message into the value slice. Afterwards the slice is the values, then zeros; after a
 /// refusal it is all zeros.
+#[inline]
 pub fn read(table: &[u8], message: &[u8], values: &mut [i64]) -> Answer {
     read_octets(table, message, linked::octets_mut(values))
 }
 
 /// Writes the list into the output. Afterwards the output is the message, then zeros; after a
 /// refusal it is all zeros.
+#[inline]
 pub fn write(table: &[u8], values: &[i64], output: &mut [u8]) -> Answer {
     write_octets(table, linked::octets(values), output)
 }
 
 /// Reads into a slice of octets, eight for a value, little-endian, two's complement. Octets after
 /// the last whole eight are zeroed.
+#[inline]
 pub fn read_octets(table: &[u8], message: &[u8], values: &mut [u8]) -> Answer {
     answer(|numbers| linked::read(table, message, values, numbers))
 }
 
 /// Writes a list of octets, eight for a value, little-endian, two's complement. Octets after the
 /// last whole eight are ignored.
+#[inline]
 pub fn write_octets(table: &[u8], values: &[u8], output: &mut [u8]) -> Answer {
     answer(|numbers| linked::write(table, values, output, numbers))
 }
 
 /// The answer of a call that tells it in numbers.
+#[inline]
 pub(crate) fn answer(call: impl FnOnce(&mut Numbers)) -> Answer {
     let mut numbers = linked::BEFORE;
     call(&mut numbers);
@@ -42,6 +48,7 @@ pub(crate) fn answer(call: impl FnOnce(&mut Numbers)) -> Answer {
 }
 
 /// The answer that these numbers tell.
+#[inline]
 pub(crate) fn told([number, place, values, bits, octets, _]: Numbers) -> Answer {
     if number == 0 {
         Answer::Accepted {

@@ -7,11 +7,13 @@ use crate::linked::{probe, BEFORE};
 pub use crate::linked::probe::Name;
 
 /// Reads the message into the value slice.
+#[inline]
 pub fn read(name: Name, message: &[u8], values: &mut [i64]) -> Answer {
     answer(|numbers| probe::read(name, message, values, numbers))
 }
 
 /// Writes the list into the output.
+#[inline]
 pub fn write(name: Name, values: &[i64], output: &mut [u8]) -> Answer {
     answer(|numbers| probe::write(name, values, output, numbers))
 }

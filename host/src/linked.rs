@@ -40,11 +40,13 @@ extern "C" {
     );
 }
 
+#[inline]
 pub fn check(table: &[u8], numbers: &mut Numbers) {
     // SAFETY: pointer and length are those of a live slice, and the numbers are lent to us alone.
     unsafe { teyolxan_check(table.as_ptr(), table.len(), numbers) };
 }
 
+#[inline]
 pub fn read(table: &[u8], message: &[u8], values: &mut [u8], numbers: &mut Numbers) {
     // SAFETY: pointers and lengths are those of live slices; only `values` and the numbers,
     // which are lent to us alone, are written.
@@ -61,6 +63,7 @@ pub fn read(table: &[u8], message: &[u8], values: &mut [u8], numbers: &mut Numbe
     };
 }
 
+#[inline]
 pub fn write(table: &[u8], values: &[u8], output: &mut [u8], numbers: &mut Numbers) {
     // SAFETY: pointers and lengths are those of live slices; only `output` and the numbers,
     // which are lent to us alone, are written.
@@ -78,6 +81,7 @@ pub fn write(table: &[u8], values: &[u8], output: &mut [u8], numbers: &mut Numbe
 }
 
 /// A list's octets, in place.
+#[inline]
 pub fn octets(values: &[i64]) -> &[u8] {
     // SAFETY: the same memory, lent for as long; octets need no alignment, and those of an i64 are
     // all initialised.
@@ -85,6 +89,7 @@ pub fn octets(values: &[i64]) -> &[u8] {
 }
 
 /// A value slice's octets, in place.
+#[inline]
 pub fn octets_mut(values: &mut [i64]) -> &mut [u8] {
     // SAFETY: as in `octets`; the slice is lent to us alone, and any eight octets are an i64.
     unsafe { slice::from_raw_parts_mut(values.as_mut_ptr().cast(), size_of_val(values)) }
@@ -167,6 +172,7 @@ pub mod probe {
         Srm,
     }
 
+    #[inline]
     pub fn read(name: Name, message: &[u8], values: &mut [i64], numbers: &mut Numbers) {
         let call = match name {
             Name::Lm => probe_read_lm,
@@ -186,6 +192,7 @@ pub mod probe {
         };
     }
 
+    #[inline]
     pub fn write(name: Name, values: &[i64], output: &mut [u8], numbers: &mut Numbers) {
         let call = match name {
             Name::Lm => probe_write_lm,
