@@ -7,7 +7,7 @@ use bits::Stored;
 ghost use mathlib.Core.Path.{_≡_};
 ghost use Prim.Native.Nat.{_+_, _-_, _*_, _%_, _<_, _≤_, _^_};
 ghost use lib.Dec.{leb};
-ghost use lib.ListN.{length, take, drop};
+ghost use lib.ListN.{length, getD, take, drop};
 ghost use Rattle.bits.specs.Bits.{numberOf, bitsOf, unpack};
 ghost use Rattle.bits.specs.Access.{mostOctets, fetched, stored, overwritten};
 
@@ -84,16 +84,17 @@ pub fn replace_in_octet(output: &mut [u8], at: usize, below: u32, k: u32, v: u32
     output[at] = (window::replace(octet, below, k, v) % 256) as u8;
 }
 
-// Replaces k bits of an octet and the one after it, with so many bits below them, by those of v; every other bit stays.
-fn replace_in_pair(output: &mut [u8], at: usize, below: u32, k: u32, v: u32)
-    requires { ⌜ (k + below ≤ 16) × (v < 2 ^ k) × (at + 1 < length (now output)) ⌝ }
-    ensures { λ _. ⌜ unpack (now (output .exit)) ≡ overwritten (unpack (now (output .entry))) (8 * at + (16 - below - k)) (bitsOf k v) ⌝ }
+// Replaces k bits of an octet, which the caller knows, and the one after it, with so many bits below them, by those of v; every
+// other bit stays. Tells the second octet as it is then.
+fn replace_in_pair(output: &mut [u8], at: usize, first: u64, below: u32, k: u32, v: u32) -> u64
+    requires { ⌜ (k + below ≤ 16) × (v < 2 ^ k) × (at + 1 < length (now output)) × (first ≡ getD (now output) at 0) ⌝ }
+    ensures { λ r. ⌜ (unpack (now (output .exit)) ≡ overwritten (unpack (now (output .entry))) (8 * at + (16 - below - k)) (bitsOf k v)) × (r ≡ getD (now (output .exit)) (at + 1) 0) ⌝ }
 {
-    let first = window::octet_inside(output, at);
     let second = window::octet_inside(output, at + 1);
     let pair = window::replace(256 * first + second, below, k, v);
     output[at] = (pair / 256 % 256) as u8;
     output[at + 1] = (pair % 256) as u8;
+    pair % 256
 }
 
 // Stores the k bits of v from a place on, in two octets where they lie in two, else in the five that begin with the place's;
@@ -112,7 +113,7 @@ fn store_wide(output: &mut [u8], place: BitPlace, k: u32, v: u32) -> Stored
     let end = BitPlace::bits_into_octet(place) + k;
     if end <= 16 {
         if at + 1 < output.len() {
-            replace_in_pair(output, at, 16 - end, k, v);
+            replace_in_pair(output, at, window::octet_inside(output, at), 16 - end, k, v);
             return Stored::Next(next);
         }
     }
@@ -146,14 +147,15 @@ pub fn store(output: &mut [u8], place: BitPlace, k: u32, v: u32) -> Stored
 }
 
 // Stores an octet that begins so many bits into an octet of the output, all of it there; every other bit stays. Without a
-// test for each octet, as `octet_at`.
-pub fn put_octet(output: &mut [u8], at: usize, into: u32, octet: u8)
-    requires { ⌜ (into < 8) × (8 * at + into + 8 ≤ 8 * length (now output)) ⌝ }
-    ensures { λ _. ⌜ unpack (now (output .exit)) ≡ overwritten (unpack (now (output .entry))) (8 * at + into) (bitsOf 8 octet) ⌝ }
+// test for each octet, as `octet_at`. Where it lies across two, the caller knows the first, and is told the second as it is then:
+// so a run of them never waits for what it has just stored.
+pub fn put_octet(output: &mut [u8], at: usize, into: u32, first: u64, octet: u8) -> u64
+    requires { ⌜ (into < 8) × (8 * at + into + 8 ≤ 8 * length (now output)) × (0 < into → first ≡ getD (now output) at 0) ⌝ }
+    ensures { λ r. ⌜ (unpack (now (output .exit)) ≡ overwritten (unpack (now (output .entry))) (8 * at + into) (bitsOf 8 octet)) × (0 < into → r ≡ getD (now (output .exit)) (at + 1) 0) ⌝ }
 {
     if into == 0 {
         output[at] = octet;
-        return;
+        return 0;
     }
-    replace_in_pair(output, at, 8 - into, 8, octet as u32);
+    replace_in_pair(output, at, first, 8 - into, 8, octet as u32)
 }

@@ -17,7 +17,7 @@ use Rattle.item.specs.Answers.{itemAt}
 use Rattle.item.specs.declared.Item.the-variants.{Value}
 use Rattle.read_item.proofs.Outcomes.{front-inside, number-is}
 use Rattle.values.specs.Values.{setValue, storeAll}
-use Rattle.runs.specs.Runs.{octetValues}
+use Rattle.read_runs.specs.Runs.{octetValues}
 use Rattle.items.specs.Items.{Items, one, times}
 use Rattle.read_steps.specs.Reads.{cursorAt, State, stateAt, Continues}
 use Rattle.read_steps.specs.declared.Step.the-variants.{Past}

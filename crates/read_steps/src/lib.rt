@@ -115,11 +115,11 @@ pub fn read_octets(
     requires { ⌜ length (now message) ≤ mostOctets ⌝ }
     ensures { λ r. ⌜ Reads (now (message .entry)) room (times count (one (Code.number (pos 0) 255))) (stateAt cursor (now (values .entry)) (now (packed .entry))) (now (values .exit)) (now (packed .exit)) r ⌝ }
 {
-    let free = runs::fitting(room, cursor.count, count);
+    let free = values::fitting(room, cursor.count, count);
     let end = BitPlace::after(OctetSize(message.len()));
     let there = OctetSize::between(cursor.place, end);
-    let ready = runs::fitting(there.0, 0, free);
-    runs::read(message, cursor.place, ready, values, packed, cursor.count);
+    let ready = values::fitting(there.0, 0, free);
+    read_runs::read(message, cursor.place, ready, values, packed, cursor.count);
     let next = Cursor {
         place: BitPlace::further(cursor.place, OctetSize(ready)),
         count: cursor.count + ready,

@@ -2,7 +2,7 @@
 // caller that has one of them lends the other empty: so that one engine serves both, and one that keeps nothing.
 ghost use mathlib.Core.Path.{_≡_};
 ghost use mathlib.Core.List.{_++_};
-ghost use Prim.Native.Nat.{_+_, _-_, _*_, _/_, _<_, _≤_};
+ghost use Prim.Native.Nat.{_+_, _-_, _*_, _/_, _<_, _≤_, min};
 ghost use lib.IntN.{pos};
 ghost use lib.ListN.{length, getD, set, take, drop, replicate};
 ghost use lib.Seq.{sets};
@@ -138,6 +138,19 @@ pub fn value_at(values: &[i64], octets: &[u8], at: usize) -> i64
         return values[at];
     }
     value_in(octets, at - values.len())
+}
+
+// How many of count there are places for, from one of so many places on.
+pub fn fitting(length: usize, at: usize, count: usize) -> usize
+    ensures { λ r. ⌜ r ≡ min count (length - at) ⌝ }
+{
+    if length <= at {
+        return 0;
+    }
+    if length - at < count {
+        return length - at;
+    }
+    count
 }
 
 // Zeroes every value from an index on.

@@ -13,7 +13,7 @@ fn wide(x: u8) -> u64
 }
 
 // The octet at i, or 0 past the end.
-fn octet(s: &[u8], i: usize) -> u64
+pub fn octet(s: &[u8], i: usize) -> u64
     ensures { λ r. ⌜ (r ≡ getD (now (s .entry)) i 0) × (r < 256) ⌝ }
 {
     if i < s.len() { wide(s[i]) } else { 0 }

@@ -12,8 +12,8 @@ use lib.ListN.{length, getD}
 use Rattle.bits.specs.Bits.{width, bitsOf}
 use Rattle.bits.proofs.Bits.{length-bitsOf}
 use Rattle.item.specs.Code.{Code, number, allows, valueBits}
-use Rattle.runs.specs.Runs.{isOctet, octetBits, Written}
-use Rattle.runs.proofs.Putting.{length-octetBits}
+use Rattle.write_runs.specs.Runs.{isOctet, octetBits, Written}
+use Rattle.write_runs.proofs.Putting.{length-octetBits}
 use Rattle.items.specs.Items.{Items, ask, _then_, one, times}
 use Rattle.items.specs.Spell.{spelled, spell}
 use Rattle.items.proofs.Spells.{spell-stop, spell-put}

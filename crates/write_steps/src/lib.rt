@@ -122,7 +122,7 @@ pub fn write_octets(
     requires { ⌜ length (now output) ≤ mostOctets ⌝ }
     ensures { λ r. ⌜ Writes (listIn (now (values .entry)) (now (packed .entry))) (times count (one (Code.number (pos 0) 255))) (stateAt cursor (now (output .entry))) (now (output .exit)) r ⌝ }
 {
-    let done = runs::write(
+    let done = write_runs::write(
         &*values,
         &*packed,
         cursor.index,

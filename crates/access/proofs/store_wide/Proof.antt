@@ -25,6 +25,7 @@ use Rattle.access.proofs.inside.Reads as inside-reads
 use Rattle.access.proofs.replace_in_pair.Reads as replace-in-pair-reads
 use Rattle.window.proofs.put_window.Reads as put-window-reads
 use Rattle.window.proofs.window.Reads as window-reads
+use Rattle.window.proofs.octet_inside.Reads as octet-inside-reads
 use Rattle.window.proofs.replace.Reads as replace-reads
 
 -- no room: nothing is stored
@@ -40,6 +41,8 @@ callees = (
   octets-before-reads.Learnt,
   bits-into-octet-reads.Asked,
   bits-into-octet-reads.Learnt,
+  octet-inside-reads.Asked,
+  octet-inside-reads.Learnt,
   replace-in-pair-reads.Asked,
   replace-in-pair-reads.Learnt,
   window-reads.Asked,
@@ -68,13 +71,14 @@ add-t14 c = omega (arith, fits c)
 returns-2 : tie.Need-returns-2
 returns-2 c =
     let replaced = c .before .before in
-    let into = replaced .before .before .before .before in
+    let into = replaced .before .before .before .before .before .before in
     let first = into .before in
     let tested = first .before in
     let a = tested .before .before .before .args in
     let end = into .bits-into-octet .result + a .k in
-    let place : 8 * first .octets-before .result .0 + (16 - (16 - end) - a .k) ≡ a .place .0 = omega arith in
-    (sym (stored-inside (now (a .output)) (a .place .0) (a .k) (fits tested)), rw (← place) (replaced .replace-in-pair .ensures))
+    let place : 8 * first .octets-before .result .0 + (16 - (16 - end) - a .k) ≡ a .place .0 =
+    omega (arith, first .octets-before .ensures, into .bits-into-octet .ensures, replaced .before .before .before .before .before .if2 .taken) in
+    (sym (stored-inside (now (a .output)) (a .place .0) (a .k) (fits tested)), rw (← place) (replaced .replace-in-pair .ensures .0))
 
 window-requires : tie.Need-window-requires
 window-requires c κs = omega (arith, fits (c .before .before .before .before))
@@ -113,6 +117,7 @@ store-wide-spec =
     (λ c κs. search needs)
     (λ c. search needs)
     (λ c. search needs)
+    (λ c κs. search needs)
     (λ c κs. search needs)
     (λ c. search needs)
     returns-2
