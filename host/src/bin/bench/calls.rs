@@ -71,7 +71,7 @@ pub fn prepare(job: Job, subject: &Subject, way: Way) -> Option<Work> {
 fn repeated<T>(mut call: impl FnMut() -> T + 'static) -> Work {
     Box::new(move |count| {
         for _ in 0..count {
-            black_box(call());
+            black_box(&call());
         }
     })
 }
