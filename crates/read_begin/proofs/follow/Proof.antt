@@ -1,10 +1,9 @@
 -- `read_begin::follow` meets its contract. Invariant: reading the row comes to reading the row that the choices so far lead to.
 -- Assumes nothing.
-use Prim.Native.Nat.{_+_, _≤_}
+use Prim.Native.Nat.{_≤_}
 use mathlib.Core.Path.{_≡_, refl, sym, _∙_}
 use native.Mathlib.Omega.{arith}
 use borrow.Author.Needs.{needs}
-use denote.Ref.{now}
 use lib.ListN.{length}
 use Rattle.rules.specs.Rules.{Starts}
 use Rattle.table.proofs.Obeyed.{earlier-starts, row-starts-inside}

@@ -9,7 +9,7 @@ use denote.Ref.{now}
 use lib.IntN.{pos}
 use lib.ListN.{length, length-append}
 use Rattle.item.specs.Code.{number}
-use Rattle.items.specs.Items.{one, times}
+use Rattle.items.specs.Items.{one}
 use Rattle.items.proofs.Runs.{times-none}
 use Rattle.values.specs.Values.{valuesIn}
 use Rattle.values.proofs.Stores.{length-valuesIn}
