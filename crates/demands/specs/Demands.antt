@@ -70,6 +70,6 @@ pub record Demands : Type 1 where
   pub cases : Given
   pub userDataCases : UserDataCases
   -- ── beside the demands ──
-  -- how many rows a call visits at most, and that it may be so many
+  -- how many rows are visited at most, counted over the definitions, and that it may be so many
   pub visits : (t : List ℕ) → Visits t
   pub visitsReached : Reached

@@ -6,12 +6,11 @@ use mathlib.Core.List.{List, _∷_}
 use lib.Dec.{eqb}
 use lib.IntN.{ℤ}
 use lib.ListN.{length}
-use Rattle.octets.specs.Numbers.{u16, u32, signed}
-use Rattle.item.specs.Code.{number}
+use Rattle.octets.specs.Numbers.{u16}
 use Rattle.rules.specs.Rules.{Starts, Earlier}
-use Rattle.items.specs.Items.{Items, stop, one, times}
+use Rattle.items.specs.Items.{Items, stop, times}
 use Rattle.encoding.specs.Rows.{presence, items}
-use Rattle.parts.specs.Parts.{markedFields}
+use Rattle.parts.specs.Parts.{NoChoice, numberRow, markedFields}
 use Rattle.read_steps.specs.declared.Cursor.{Cursor}
 use Rattle.read_steps.specs.declared.Step.{Step}
 use Rattle.read_steps.specs.declared.Step.the-variants.{Past, Refused as StepRefused}
@@ -22,9 +21,6 @@ use Rattle.read_begin.specs.declared.Chosen.the-variants.{Row, Refused a
 use Rattle.read_steps.specs.Reads.{State, stateAt, Reads, Continues}
 
 -- ── choices ──
-
-abbrev pub NoChoice : List ℕ → ℕ → Type 0
-NoChoice t o = u16 t (o + 2) ≡ 6 → ⊥
 
 -- a choice at o, chosen: refused; or the row of its branch, an earlier one, is left
 abbrev pub Chooses : List ℕ → ℕ → List ℕ → ℕ → State → List ℤ → List ℕ → Chosen → Type 0
@@ -43,16 +39,13 @@ Leads t o message room from values packed (ChosenRefused refusal) = Reads messag
 abbrev pub runOf : List ℕ → ℕ → ℕ → Cursor → Begun
 runOf t count row to = cond (eqb (u16 t (row + 2)) 1) (Numbers count row to) (Run count row to)
 
--- what the number row at an offset asks for
-abbrev pub numberRow : List ℕ → ℕ → Items
-numberRow t row = one (number (signed (u32 t (row + 4))) (u32 t (row + 8)))
-
 -- a step as the beginning of a row that asks for no more
 abbrev pub wholeOf : Step → Begun
 wholeOf (Past to) = Done to
 wholeOf (StepRefused refusal) = Refused refusal
 
--- the items p of the row at o, begun: refused; or what is left of them, on earlier rows
+-- the items p of the row at o, begun: refused; or what is left of them: a run or fields, on earlier rows, or numbers, of an earlier row
+-- or its own
 abbrev pub Begins : List ℕ → ℕ → List ℕ → ℕ → Items → State → List ℤ → List ℕ → Begun → Type 0
 Begins t o message room p from values packed (Done to) = Continues message room p from stop (stateAt to values packed)
 Begins t o message room p from values packed (Run count row to) =

@@ -1,6 +1,6 @@
 // The beginning of a row. Choices come first: each is an index, which leaves the row of its branch. Then the items that are the
-// row's own: all of them where it refers to no other row (read_leaf), else the length of a counted run or the presence bits of a
-// record; and what they leave to be read.
+// row's own: all of them where it is a variable number or octets (read_leaf), none where it is a number, which is left as a run of
+// one, else the length of a counted run or the presence bits of a record; and what they leave to be read.
 use answer::Refusal;
 use read_steps::Cursor;
 use read_steps::Step;
@@ -9,11 +9,12 @@ ghost use mathlib.Core.Path.{_≡_};
 ghost use Prim.Native.Nat.{_+_, _<_, _≤_};
 ghost use lib.ListN.{length};
 ghost use Rattle.bits.specs.Access.{mostOctets};
-ghost use Rattle.octets.specs.Numbers.{u16, u32};
+ghost use Rattle.octets.specs.Numbers.{u16};
 ghost use Rattle.rules.specs.Rules.{Obeys, Starts};
 ghost use Rattle.encoding.specs.Rows.{items};
 ghost use Rattle.read_steps.specs.Reads.{stateAt};
-ghost use Rattle.read_begin.specs.Begins.{Begins, Marks, Chooses, Leads, NoChoice, runOf, wholeOf};
+ghost use Rattle.parts.specs.Parts.{NoChoice};
+ghost use Rattle.read_begin.specs.Begins.{Begins, Marks, Chooses, Leads, runOf, wholeOf};
 
 // Where choices lead: the row at an offset, which is left to be read; or the refusal.
 pub enum Chosen {
@@ -198,7 +199,7 @@ pub fn begin(
 {
     let kind = Row::kind_at(table, at);
     match kind {
-        Row::NUMBER => Begun::Numbers(1, at, cursor),
+        Row::NUMBER => Begun::Numbers(1, at, cursor), // a run of one
         Row::VARIABLE => whole(read_leaf::variable(message, values, packed, room, cursor)),
         Row::FIXED_RUN => {
             let count = Row::count_at(table, at);

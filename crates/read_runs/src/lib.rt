@@ -1,5 +1,5 @@
 // Runs of octets of a message into values. What a run needs is tested once, for all of its octets; the loops over them have no
-// test of their own, and take four at a time.
+// test of their own, and take four at a time, the last few one by one.
 use bits::BitPlace;
 ghost use mathlib.Core.Path.{_≡_};
 ghost use Prim.Native.Nat.{_+_, _-_, _*_, _/_, _<_, _≤_};
@@ -10,8 +10,8 @@ ghost use Rattle.values.specs.Values.{setValue, storeAll};
 ghost use Rattle.read_runs.specs.Runs.{octetValues};
 
 // Keeps four octets that begin so many bits into an octet of the message as numbers. Where that is none, each is stored before
-// the next is loaded: so the compiler leaves them four loads and four stores, which take less time than its steps from octets to
-// numbers. Otherwise they are cut out of the five octets that they lie in, which one shift serves.
+// the next is loaded, so that the compiler keeps plain loads and stores: its vector code, which widens octets to 64 bits in steps,
+// takes longer. Otherwise they are cut out of the five octets that they lie in, which one shift serves.
 fn read_four(message: &[u8], from: usize, into: u32, values: &mut [i64], at: usize)
     requires { ⌜ (into < 8) × (8 * from + into + 32 ≤ 8 * length (now message)) × (length (now message) ≤ mostOctets) × (at + 4 ≤ length (now values)) ⌝ }
     ensures { λ _. ⌜ now (values .exit) ≡ storeAll set (now (values .entry)) at (octetValues 4 (drop (8 * from + into) (unpack (now (message .entry))))) ⌝ }

@@ -33,13 +33,13 @@ use Rattle.read_steps.specs.Reads.{cursorAt, stateAt, Agrees, Reads}
 use Rattle.read_steps.specs.Ends.{KeptBy, closed}
 
 -- bits that spell 0 are all zero, and no others
-pub zero-bits : (b : List Bool) → numberOf b ≡ 0 → allZero b ≡ true
+zero-bits : (b : List Bool) → numberOf b ≡ 0 → allZero b ≡ true
 unfolding numberOf
 zero-bits [] h = refl
 zero-bits (true ∷ b) h = absurd (omega (arith, pow-pos (length b)))
 zero-bits (false ∷ b) h = zero-bits b (omega arith)
 
-pub nonzero-bits : (b : List Bool) → numberOf b ≢ 0 → allZero b ≡ false
+nonzero-bits : (b : List Bool) → numberOf b ≢ 0 → allZero b ≡ false
 unfolding numberOf
 nonzero-bits [] h = absurd (h refl)
 nonzero-bits (true ∷ b) h = refl

@@ -13,9 +13,8 @@ ghost use Rattle.octets.specs.Numbers.{u16};
 ghost use Rattle.rules.specs.Rules.{Obeys, Starts, Earlier};
 ghost use Rattle.items.specs.Items.{times};
 ghost use Rattle.encoding.specs.Rows.{items};
-ghost use Rattle.read_begin.specs.Begins.{NoChoice};
 ghost use Rattle.read_steps.specs.Reads.{Reads, stateAt};
-ghost use Rattle.parts.specs.Parts.{markedFields, fieldIf};
+ghost use Rattle.parts.specs.Parts.{NoChoice, markedFields, fieldIf};
 
 // The row at an offset.
 pub fn read_row(

@@ -2,6 +2,7 @@
 -- Assumes nothing.
 use mathlib.Core.Path.{_≡_, refl}
 use mathlib.Core.List.{[], _∷_}
+use lib.IntN.{pos}
 use Rattle.bits.specs.Bits.{numberOf, bitsOf, width, unpack}
 use Rattle.octets.specs.Numbers.{u16, u32, signed, u16s, there}
 use Rattle.row.specs.Offsets.{earlier, upTo, byOffset}
@@ -21,8 +22,9 @@ unfolding nested deep u16 u32 signed u16s there rowOf rowAt rowLength knownKind 
 deep-passes = refl
 
 deep-visited : (visitedInReading deep (0 ∷ []) 0 ≡ 32) × (visitedInWriting deep [] 1 ≡ 32)
+    × (visitedInReading deep (0 ∷ []) 1 ≡ 63) × (visitedInWriting deep (pos 0 ∷ []) 1 ≡ 63)
 unfolding nested deep u16 u32 signed u16s rowOf rowAt rootFrom root earlier upTo byOffset one times rowItems numberOf bitsOf width unpack mark marked
-deep-visited = (refl, refl)
+deep-visited = (refl, refl, refl, refl)
 
 pub reached : Reached
-reached = record { obeys = passes-exactly deep .0 deep-passes; reading = deep-visited .0; writing = deep-visited .1 }
+reached = record { obeys = passes-exactly deep .0 deep-passes; reading = deep-visited .0; writing = deep-visited .1; readingOn = deep-visited .2; writingOn = deep-visited .3 }

@@ -6,12 +6,11 @@ use mathlib.Core.List.{List, _∷_}
 use lib.Dec.{eqb}
 use lib.IntN.{ℤ}
 use lib.ListN.{length}
-use Rattle.octets.specs.Numbers.{u16, u32, signed}
-use Rattle.item.specs.Code.{number}
+use Rattle.octets.specs.Numbers.{u16}
 use Rattle.rules.specs.Rules.{Starts, Earlier}
-use Rattle.items.specs.Items.{Items, stop, one, times}
+use Rattle.items.specs.Items.{Items, stop, times}
 use Rattle.encoding.specs.Rows.{presence, items}
-use Rattle.parts.specs.Parts.{markedFields}
+use Rattle.parts.specs.Parts.{NoChoice, numberRow, markedFields}
 use Rattle.write_steps.specs.declared.Cursor.{Cursor}
 use Rattle.write_steps.specs.declared.Step.{Step}
 use Rattle.write_steps.specs.declared.Step.the-variants.{Past, Refused as StepRefused}
@@ -22,9 +21,6 @@ use Rattle.write_begin.specs.declared.Chosen.the-variants.{Row, Refused 
 use Rattle.write_steps.specs.Writes.{State, stateAt, Writes, Continues}
 
 -- ── choices ──
-
-abbrev pub NoChoice : List ℕ → ℕ → Type 0
-NoChoice t o = u16 t (o + 2) ≡ 6 → ⊥
 
 -- a choice at o, chosen: refused; or the row of its branch, an earlier one, is left
 abbrev pub Chooses : List ℕ → ℕ → List ℤ → State → List ℕ → Chosen → Type 0
@@ -43,16 +39,13 @@ Leads t o list from output (ChosenRefused refusal) = Writes list (items t o) fro
 abbrev pub runOf : List ℕ → ℕ → ℕ → Cursor → Begun
 runOf t count row to = cond (eqb (u16 t (row + 2)) 1) (Numbers count row to) (Run count row to)
 
--- what the number row at an offset asks for
-abbrev pub numberRow : List ℕ → ℕ → Items
-numberRow t row = one (number (signed (u32 t (row + 4))) (u32 t (row + 8)))
-
 -- a step as the beginning of a row that asks for no more
 abbrev pub wholeOf : Step → Begun
 wholeOf (Past to) = Done to
 wholeOf (StepRefused refusal) = Refused refusal
 
--- the items p of the row at o, begun: refused; or what is left of them, on earlier rows
+-- the items p of the row at o, begun: refused; or what is left of them: a run or fields, on earlier rows, or numbers, of an earlier row
+-- or its own
 abbrev pub Begins : List ℕ → ℕ → List ℤ → Items → State → List ℕ → Begun → Type 0
 Begins t o list p from output (Done to) = Continues list p from stop (stateAt to output)
 Begins t o list p from output (Run count row to) = Earlier t o row × Continues list p from (times count (items t row)) (stateAt to output)

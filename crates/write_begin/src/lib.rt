@@ -1,6 +1,6 @@
 // The beginning of a row. Choices come first: each is an index, which leaves the row of its branch. Then the items that are the
-// row's own: all of them where it refers to no other row (write_leaf), else the length of a counted run or the presence values of
-// a record; and what they leave to be written.
+// row's own: all of them where it is a variable number or octets (write_leaf), none where it is a number, which is left as a run of
+// one, else the length of a counted run or the presence values of a record; and what they leave to be written.
 use answer::Refusal;
 use row::Row;
 use write_steps::Cursor;
@@ -10,11 +10,12 @@ ghost use mathlib.Core.Path.{_≡_};
 ghost use Prim.Native.Nat.{_+_, _<_, _≤_};
 ghost use lib.ListN.{length};
 ghost use Rattle.bits.specs.Access.{mostOctets};
-ghost use Rattle.octets.specs.Numbers.{u16, u32};
+ghost use Rattle.octets.specs.Numbers.{u16};
 ghost use Rattle.rules.specs.Rules.{Obeys, Starts};
 ghost use Rattle.encoding.specs.Rows.{items};
 ghost use Rattle.write_steps.specs.Writes.{listIn, stateAt};
-ghost use Rattle.write_begin.specs.Begins.{Begins, Marks, Chooses, Leads, NoChoice, runOf, wholeOf};
+ghost use Rattle.parts.specs.Parts.{NoChoice};
+ghost use Rattle.write_begin.specs.Begins.{Begins, Marks, Chooses, Leads, runOf, wholeOf};
 
 // Where choices lead: the row at an offset, which is left to be written; or the refusal.
 pub enum Chosen {
@@ -202,7 +203,7 @@ pub fn begin(
 {
     let kind = Row::kind_at(table, at);
     match kind {
-        Row::NUMBER => Begun::Numbers(1, at, cursor),
+        Row::NUMBER => Begun::Numbers(1, at, cursor), // a run of one
         Row::VARIABLE => whole(write_leaf::variable(values, packed, output, cursor)),
         Row::FIXED_RUN => {
             let count = Row::count_at(table, at);

@@ -13,8 +13,7 @@ ghost use Rattle.octets.specs.Numbers.{u16};
 ghost use Rattle.rules.specs.Rules.{Obeys, Starts, Earlier};
 ghost use Rattle.items.specs.Items.{times};
 ghost use Rattle.encoding.specs.Rows.{items};
-ghost use Rattle.write_begin.specs.Begins.{NoChoice};
-ghost use Rattle.parts.specs.Parts.{markedFields, fieldIf};
+ghost use Rattle.parts.specs.Parts.{NoChoice, markedFields, fieldIf};
 ghost use Rattle.write_steps.specs.Writes.{Writes, listIn, stateAt};
 
 // The row at an offset.

@@ -73,7 +73,7 @@ impl Subject {
     }
 }
 
-/// The kinds of messages. A run of numbers has no call by name.
+/// The kinds of messages. Runs of numbers, and octets behind a bit, have no call by name.
 #[derive(Clone, Copy, Debug, PartialEq, Eq)]
 pub enum Kind {
     Lm,

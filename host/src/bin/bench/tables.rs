@@ -149,18 +149,22 @@ pub fn print_table(
 
 /// What the times of reading and writing come to.
 pub fn summary(times: &[Ratio]) -> String {
-    format!("{}{}", beside_rust(times), behind_asn1c(times))
+    format!(
+        "{} {}{}",
+        beside(times, Way::Rust, "By name / Rust"),
+        beside(times, Way::Straight, "By name / straight"),
+        behind_asn1c(times)
+    )
 }
 
-fn beside_rust(times: &[Ratio]) -> String {
-    let by_name = |ratio: &&Ratio| (ratio.ours, ratio.other) == (Way::Ours, Way::Rust);
+fn beside(times: &[Ratio], other: Way, title: &str) -> String {
+    let by_name = |ratio: &&Ratio| (ratio.ours, ratio.other) == (Way::Ours, other);
     let mut ratios: Vec<&Ratio> = times.iter().filter(by_name).collect();
     ratios.sort_by(|left, right| left.value.total_cmp(&right.value));
     let close = ratios.partition_point(|ratio| ratio.value <= CLOSE);
     let largest = ratios.last().expect("calls by name are timed");
     format!(
-        "By name / Rust in time: {} lines of reading and writing, {close} of them at most {CLOSE}, \
-         the largest {:.2} ({}).",
+        "{title} in time: {} lines, {close} of them at most {CLOSE}, the largest {:.2} ({}).",
         ratios.len(),
         largest.value,
         largest.line,
@@ -208,13 +212,15 @@ mod tests {
             ratio("reading P1", Way::OursLent, Way::RustLent, 9.0),
             ratio("writing P1", Way::Ours, Way::Rust, 1.5),
             ratio("writing P2", Way::Ours, Way::Rust, 0.5),
+            ratio("reading P1", Way::Ours, Way::Straight, 2.0),
         ];
-        let beside_rust = "By name / Rust in time: 3 lines of reading and writing, \
-                           2 of them at most 1.1, the largest 1.50 (writing P1).";
-        assert_eq!(summary(&times), beside_rust);
+        let beside = "By name / Rust in time: 3 lines, 2 of them at most 1.1, the largest 1.50 \
+                      (writing P1). By name / straight in time: 1 lines, 0 of them at most 1.1, \
+                      the largest 2.00 (reading P1).";
+        assert_eq!(summary(&times), beside);
 
         times.push(ratio("reading P1", Way::Ours, Way::Asn1c, 1.0));
-        let none = format!("{beside_rust} Behind asn1c: none.");
+        let none = format!("{beside} Behind asn1c: none.");
         assert_eq!(summary(&times), none);
 
         times.extend([
@@ -223,6 +229,6 @@ mod tests {
             ratio("writing P1", Way::OursLent, Way::Asn1c, 2.0),
         ]);
         let behind = "Behind asn1c: reading P1 (lent); writing P1 (by name, lent).";
-        assert_eq!(summary(&times), format!("{beside_rust} {behind}"));
+        assert_eq!(summary(&times), format!("{beside} {behind}"));
     }
 }
