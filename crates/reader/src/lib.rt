@@ -1,5 +1,5 @@
 // Reads the items that a row of a passed table asks for from a message, and keeps their values in the slices that are lent.
-// A row's own items come first (read_begin); then the rows that it refers to, each earlier in the table.
+// Choices are followed to a row, whose own items come first (read_begin); then the rows that it refers to, each earlier in the table.
 use read_begin::Begun;
 use read_begin::Chosen;
 use read_steps::Cursor;

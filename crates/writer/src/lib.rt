@@ -1,5 +1,5 @@
 // Writes the items that a row of a passed table asks for into an output, from the values of a list in the slices that are lent.
-// A row's own items come first (write_begin); then the rows that it refers to, each earlier in the table.
+// Choices are followed to a row, whose own items come first (write_begin); then the rows that it refers to, each earlier in the table.
 use row::Row;
 use write_begin::Begun;
 use write_begin::Chosen;
