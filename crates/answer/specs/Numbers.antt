@@ -1,4 +1,5 @@
--- Document 01's refusal numbers by name, and which case of an answer stands for that paper's number and values.
+-- The refusal numbers of document 01, and of document 02's tickets that have landed, by name, and which case of an answer stands for
+-- those papers' number and values.
 use Prim.Native.Nat.{ℕ}
 use mathlib.Core.Path.{_≡_}
 use Rattle.answer.specs.declared.Answer.{Answer}
@@ -6,8 +7,8 @@ use Rattle.answer.specs.declared.Refusal.{Refusal}
 use Rattle.answer.specs.declared.Answer.the-variants.{Accepted, Refused}
 
 -- the numbers
-abbrev pub brokenTable : ℕ
-brokenTable = 1
+abbrev pub tableSize : ℕ
+tableSize = 1
 
 abbrev pub messageEnds : ℕ
 messageEnds = 2
@@ -44,6 +45,28 @@ wrongValue = 12
 
 abbrev pub tooLong : ℕ
 tooLong = 13
+
+-- of a row (document 02, ticket 1)
+abbrev pub rowPastEnd : ℕ
+rowPastEnd = 20
+
+abbrev pub unknownKind : ℕ
+unknownKind = 21
+
+abbrev pub wrongRowLength : ℕ
+wrongRowLength = 22
+
+abbrev pub wrongRowNumber : ℕ
+wrongRowNumber = 23
+
+abbrev pub wrongReference : ℕ
+wrongReference = 24
+
+abbrev pub onlyReserved : ℕ
+onlyReserved = 25
+
+abbrev pub tooDeep : ℕ
+tooDeep = 26
 
 -- an outcome as document 01 tells it: a refusal's number, 0 where it is accepted; its place; the values, bits and octets counted
 pub record Outcome : Type 0 where

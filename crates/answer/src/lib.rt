@@ -12,7 +12,8 @@ pub struct Counts {
     pub octets: OctetSize,
 }
 
-// A refusal: its number, and its place, counted in what the number asks for (bits of a message, values of a list).
+// A refusal: its number, and its place, counted in what the number asks for (bits of a message, values of a list, octets of a
+// table).
 pub struct Refusal {
     pub number: u32,
     pub place: usize,
@@ -24,8 +25,8 @@ pub enum Answer {
 }
 
 impl Refusal {
-    // The table breaks a rule.
-    pub const BROKEN_TABLE: u32 = 1;
+    // A table of under 4 or above 4,096 octets.
+    pub const TABLE_SIZE: u32 = 1;
     // The message ends inside an item, or is empty.
     pub const MESSAGE_ENDS: u32 = 2;
     // A number above its span.
@@ -50,6 +51,23 @@ impl Refusal {
     pub const WRONG_VALUE: u32 = 12;
     // A message above 65,535 octets.
     pub const TOO_LONG: u32 = 13;
+
+    // The first row of a table that breaks a rule, by the first part that does (document 02, ticket 1).
+
+    // Under 4 octets remain for the row, or its length runs past the table.
+    pub const ROW_PAST_END: u32 = 20;
+    // Its kind is none.
+    pub const UNKNOWN_KIND: u32 = 21;
+    // Its length is not the one that its kind asks for.
+    pub const WRONG_ROW_LENGTH: u32 = 22;
+    // A number or a flag in it is out of bounds.
+    pub const WRONG_ROW_NUMBER: u32 = 23;
+    // It refers to what is not the first octet of an earlier row.
+    pub const WRONG_REFERENCE: u32 = 24;
+    // A choice with no branch that isn't reserved.
+    pub const ONLY_RESERVED: u32 = 25;
+    // It is deeper than 32.
+    pub const TOO_DEEP: u32 = 26;
 
     // A refusal of a number at a place. No other function makes one.
     pub fn new(number: u32, place: usize) -> Refusal

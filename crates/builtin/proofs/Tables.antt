@@ -6,8 +6,8 @@ use mathlib.Core.List.{List}
 use Rattle.octets.specs.Numbers.{u16, u32, signed, u16s, there}
 use Rattle.row.specs.Rows.{Row, rowOf, rowAt, rowLength, within}
 use Rattle.rules.specs.Rules.{knownKind, flagsInBounds, numbersInBounds, branches, references, someBranch, hasBranch, Obeys}
-use Rattle.table.specs.Verdict.{passed, verdict, checked, obeys}
-use Rattle.rules.specs.Tests.{rowTest, rowDepth}
+use Rattle.table.specs.Verdict.{passed, verdict, checked}
+use Rattle.rules.specs.Tests.{rowVerdict, rowDepth}
 use Rattle.table.specs.Root.{root, rootFrom, IsRoot}
 use Rattle.table.proofs.Decides.{passes-exactly}
 use Rattle.table.proofs.LastRow.{root-is}
@@ -18,7 +18,7 @@ use Rattle.builtin.specs.Built.{Rows, Built, BuiltIn}
 -- ── each passes the check, and so obeys the rules ──
 
 all-pass : (verdict lm ≡ passed) × ((verdict sam ≡ passed) × (verdict srm ≡ passed))
-unfolding lm sam srm u16 u32 signed u16s there rowOf rowAt rowLength knownKind within flagsInBounds numbersInBounds branches references someBranch hasBranch rowTest rowDepth obeys verdict
+unfolding lm sam srm u16 u32 signed u16s there rowOf rowAt rowLength knownKind within flagsInBounds numbersInBounds branches references someBranch hasBranch rowVerdict rowDepth verdict
 all-pass = (refl, (refl, refl))
 
 pub lm-passes : verdict lm ≡ passed

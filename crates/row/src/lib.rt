@@ -76,12 +76,6 @@ impl Row {
         least <= n && n <= most
     }
 
-    pub fn is_kind(kind: usize) -> bool
-        ensures { λ r. ⌜ r ≡ within 1 7 kind ⌝ }
-    {
-        Row::between(Row::NUMBER, Row::OCTETS, kind)
-    }
-
     // The length of a row of a kind, with that count: 0 if there is no such kind.
     pub fn length(kind: usize, count: usize) -> usize
         requires { ⌜ count < 65536 ⌝ }

@@ -1,5 +1,6 @@
 -- What document 01 asks of a table, in its words and order: size; rows that fill the table exactly; then for each row, used
--- or not, its kind, its length, its numbers, its references, a branch that isn't reserved, its depth.
+-- or not, its kind, its length, its numbers, its references, a branch that isn't reserved, its depth; and the number that document 02
+-- gives to each part of a row.
 -- A reader believes this file, row's specs/Rows.antt and specs/Offsets.antt, and octets' specs/Numbers.antt. Nothing in them mentions the check.
 use Prim.Native.Nat.{ℕ, suc, _+_, _≤_, _<_, max}
 use mathlib.Core.Bool.{Bool, true, false, cond, _&&_, _||_}
@@ -8,6 +9,7 @@ use mathlib.Core.List.{List, [], _∷_}
 use lib.Dec.{leb}
 use lib.ListN.{length}
 use Rattle.octets.specs.Numbers.{u16, there}
+use Rattle.answer.specs.Numbers.{rowPastEnd, unknownKind, wrongRowLength, wrongRowNumber, wrongReference, onlyReserved, tooDeep}
 use Rattle.row.specs.Offsets.{byOffset}
 use Rattle.row.specs.Rows.{within, Row, Number, Variable, FixedRun, CountedRun, Record, Choice, Octets, Unknown, rowAt, rowLength}
 
@@ -102,14 +104,45 @@ depth t = byOffset 0 (λ o d. suc (deepest d (references (rowAt t o))))
 
 -- ── the rules ──
 
+-- the parts of a row that the rules speak of
+pub data Part : Type 0 where
+  itsEnd : Part
+  itsKind : Part
+  itsLength : Part
+  itsNumbers : Part  -- and its flags
+  itsReferences : Part
+  itsBranch : Part
+  itsDepth : Part
+
+-- the refusal of each (document 02, ticket 1). A row is tested for its parts in the order of these numbers
+abbrev pub partNumber : Part → ℕ
+partNumber itsEnd = rowPastEnd
+partNumber itsKind = unknownKind
+partNumber itsLength = wrongRowLength
+partNumber itsNumbers = wrongRowNumber
+partNumber itsReferences = wrongReference
+partNumber itsBranch = onlyReserved
+partNumber itsDepth = tooDeep
+
+-- the row at o keeps the rule for a part. The first is that four octets remain for it, and that its length doesn't run past the
+-- table; where rows fill the table, each keeps it
+abbrev pub Keeps : List ℕ → ℕ → Part → Type 0
+Keeps t o itsEnd = (o + 4 ≤ length t) × (o + u16 t o ≤ length t)
+Keeps t o itsKind = knownKind (rowAt t o) ≡ true
+Keeps t o itsLength = u16 t o ≡ rowLength (rowAt t o)
+Keeps t o itsNumbers = numbersInBounds (rowAt t o) ≡ true
+Keeps t o itsReferences = All (Earlier t o) (references (rowAt t o))
+Keeps t o itsBranch = hasBranch (rowAt t o) ≡ true
+Keeps t o itsDepth = depth t o ≤ 32
+
 -- the row at o
 pub record RowObeys (t : List ℕ) (o : ℕ) : Type 0 where
-  pub kindKnown : knownKind (rowAt t o) ≡ true
-  pub lengthRight : u16 t o ≡ rowLength (rowAt t o)
-  pub numbersRight : numbersInBounds (rowAt t o) ≡ true
-  pub referencesEarlier : All (Earlier t o) (references (rowAt t o))
-  pub branchThere : hasBranch (rowAt t o) ≡ true
-  pub depthWithin : depth t o ≤ 32
+  pub kindKnown : Keeps t o itsKind
+  pub lengthRight : Keeps t o itsLength
+  pub numbersRight : Keeps t o itsNumbers
+  pub referencesEarlier : Keeps t o itsReferences
+  pub branchThere : Keeps t o itsBranch
+  pub depthWithin : Keeps t o itsDepth
 
 -- a table obeys the rules
 pub record Obeys (t : List ℕ) : Type 0 where

@@ -1,29 +1,23 @@
-// The rules of a table (specs/Rules.antt) for one row, tested against the rows before it. Each step reads its part of the row once.
+// The rules of a table (specs/Rules.antt) for one row, tested against the rows before it, part by part, in the order in which their
+// numbers are answered.
+use answer::Refusal;
 use row::Row;
 ghost use mathlib.Core.Path.{_≡_};
-ghost use mathlib.Core.Bool.{_&&_};
+ghost use mathlib.Core.Bool.{true, _&&_};
 ghost use mathlib.Core.List.{[], _∷_};
 ghost use Prim.Native.Nat.{_+_, _*_, _≤_, _<_};
 ghost use lib.Dec.{eqb};
 ghost use lib.ListN.{length, getD};
-ghost use Rattle.octets.specs.Numbers.{u16, u16s};
+ghost use Rattle.octets.specs.Numbers.{u16s};
+ghost use Rattle.row.specs.Rows.{within};
+ghost use Rattle.row.specs.Kinds.{lengthOf, leastCount, mostCount, countOf, flagCount};
 ghost use Rattle.rules.specs.Rules.{flagsInBounds};
-ghost use Rattle.rules.specs.Steps.{spread, headAt, kept, deepestFrom, rowTested};
+ghost use Rattle.rules.specs.Steps.{spread, Headed, kept, deepestFrom, rowTested};
 
-// What the test of a row finds: its length and its depth, or that it breaks a rule.
+// What the test of a row finds: its length and its depth, or the number of the first part that breaks a rule.
 pub enum RowTest {
     Sound(usize, u8),
-    Broken,
-}
-
-// What the test of a row finds up to its count.
-enum Head {
-    Whole {
-        length: usize,
-        kind: usize,
-        count: usize,
-    },
-    Wrong,
+    Broken(u32),
 }
 
 // The depth of the deepest row referred to, or that a reference is to no row passed.
@@ -32,37 +26,15 @@ enum Below {
     NoRow,
 }
 
-// The row at an offset, whose kind is given: its length, its kind, the kind's length, the count.
-fn head_at(table: &[u8], at: usize, kind: usize) -> Head
-    requires { ⌜ (at + 4 ≤ length (now table)) × (kind ≡ u16 (now table) (at + 2)) ⌝ }
-    ensures { λ r. ⌜ r ≡ headAt (now (table .entry)) at ⌝ }
+// Whether a row of a known kind has the length that its kind asks for, with the count that stands in it.
+fn length_right(table: &[u8], at: usize, size: usize, kind: usize) -> bool
+    requires { ⌜ (at + size ≤ length (now table)) × (within 1 7 kind ≡ true) ⌝ }
+    ensures { λ r. ⌜ r ≡ eqb size (lengthOf kind (countOf (now (table .entry)) at kind)) ⌝ }
 {
-    let left = table.len() - at;
-    let length = Row::length_at(table, at);
-    if left < length {
-        return Head::Wrong;
+    if size < Row::length(kind, 0) {
+        return false;
     }
-    if !Row::is_kind(kind) {
-        return Head::Wrong;
-    }
-    if length < Row::length(kind, 0) {
-        return Head::Wrong;
-    }
-    let count = Row::count_of(table, at, kind);
-    if length != Row::length(kind, count) {
-        return Head::Wrong;
-    }
-    if count < Row::least_count(kind) {
-        return Head::Wrong;
-    }
-    if Row::most_count(kind) < count {
-        return Head::Wrong;
-    }
-    Head::Whole {
-        length,
-        kind,
-        count,
-    }
+    size == Row::length(kind, Row::count_of(table, at, kind))
 }
 
 // Whether n flags, the first at an offset, are 0 or 1.
@@ -80,6 +52,20 @@ fn flags_sound(table: &[u8], from: usize, n: usize) -> bool
         left -= 1;
     }
     true
+}
+
+// Whether the numbers of a row of a kind, its count and its flags, are in bounds.
+fn numbers_right(table: &[u8], at: usize, kind: usize, count: usize) -> bool
+    requires { ⌜ (at + lengthOf kind count ≤ length (now table)) × (length (now table) ≤ 4096) ⌝ }
+    ensures { λ r. ⌜ r ≡ within (leastCount kind) (mostCount kind) count && flagsInBounds (u16s (now (table .entry)) (at + 8) 4 (flagCount kind count)) ⌝ }
+{
+    if count < Row::least_count(kind) {
+        return false;
+    }
+    if Row::most_count(kind) < count {
+        return false;
+    }
+    flags_sound(table, at + Row::FIRST_FLAG, Row::flag_count(kind, count))
 }
 
 // The depth of the row at an offset, or 0 if none that starts there has passed. No row starts at an odd offset.
@@ -138,57 +124,57 @@ fn deepest(table: &[u8], from: usize, step: usize, n: usize, reserved: bool, dep
     Below::Depth(depth)
 }
 
-// The row at an offset, whose kind is known, against every rule. `depths` has the depth of each row before it at half the row's
-// offset, and 0 elsewhere.
-fn kind_test(table: &[u8], at: usize, known: usize, depths: &[u8]) -> RowTest
-    requires { ⌜ (at + 4 ≤ length (now table)) × (length (now table) ≤ 4096) × (known ≡ u16 (now table) (at + 2)) ⌝ }
+// The row at an offset against every rule but those for its end and its kind, which it keeps. `depths` has the depth of each row
+// before it at half the row's offset, and 0 elsewhere.
+fn kind_test(table: &[u8], at: usize, size: usize, kind: usize, depths: &[u8]) -> RowTest
+    requires { ⌜ (length (now table) ≤ 4096) × Headed (now table) at size kind ⌝ }
     ensures { λ r. ⌜ r ≡ rowTested (now (table .entry)) at (spread (now (depths .entry))) ⌝ }
 {
-    let head = head_at(table, at, known);
-    let Head::Whole {
-        length,
-        kind,
-        count,
-    } = head
-    else {
-        return RowTest::Broken;
-    };
-    if !flags_sound(table, at + Row::FIRST_FLAG, Row::flag_count(kind, count)) {
-        return RowTest::Broken;
+    if !length_right(table, at, size, kind) {
+        return RowTest::Broken(Refusal::WRONG_ROW_LENGTH);
+    }
+    let count = Row::count_of(table, at, kind);
+    if !numbers_right(table, at, kind, count) {
+        return RowTest::Broken(Refusal::WRONG_ROW_NUMBER);
     }
     let step = Row::reference_step(kind);
     let n = Row::reference_count(kind, count);
     let reserved = Row::may_reserve(kind);
     let below = deepest(table, at + Row::HEAD, step, n, reserved, depths);
     let Below::Depth(depth) = below else {
-        return RowTest::Broken;
+        return RowTest::Broken(Refusal::WRONG_REFERENCE);
     };
     if depth < Row::least_below(kind) {
-        return RowTest::Broken;
+        return RowTest::Broken(Refusal::ONLY_RESERVED);
     }
     if Row::MOST_DEPTH <= depth {
-        return RowTest::Broken;
+        return RowTest::Broken(Refusal::TOO_DEEP);
     }
-    RowTest::Sound(length, depth + 1)
+    RowTest::Sound(size, depth + 1)
 }
 
-// The row at an offset: room for a row, then every rule. An arm for each kind lets the compiler settle what goes by the kind.
-pub fn row_test(table: &[u8], at: usize, depths: &[u8]) -> RowTest
-    requires { ⌜ (at < length (now table)) × (length (now table) ≤ 4096) ⌝ }
+// The row at an offset, where so many octets of the table are left: room for a row, its end, its kind, then the other rules. An arm
+// for each kind lets the compiler settle what goes by the kind.
+pub fn row_test(table: &[u8], at: usize, left: usize, depths: &[u8]) -> RowTest
+    requires { ⌜ (at + left ≡ length (now table)) × (length (now table) ≤ 4096) ⌝ }
     ensures { λ r. ⌜ r ≡ rowTested (now (table .entry)) at (spread (now (depths .entry))) ⌝ }
 {
-    if table.len() - at < Row::START {
-        return RowTest::Broken;
+    if left < Row::START {
+        return RowTest::Broken(Refusal::ROW_PAST_END);
+    }
+    let size = Row::length_at(table, at);
+    if left < size {
+        return RowTest::Broken(Refusal::ROW_PAST_END);
     }
     let kind = Row::kind_at(table, at);
     match kind {
-        Row::NUMBER => kind_test(table, at, Row::NUMBER, depths),
-        Row::VARIABLE => kind_test(table, at, Row::VARIABLE, depths),
-        Row::FIXED_RUN => kind_test(table, at, Row::FIXED_RUN, depths),
-        Row::COUNTED_RUN => kind_test(table, at, Row::COUNTED_RUN, depths),
-        Row::RECORD => kind_test(table, at, Row::RECORD, depths),
-        Row::CHOICE => kind_test(table, at, Row::CHOICE, depths),
-        Row::OCTETS => kind_test(table, at, Row::OCTETS, depths),
-        _ => RowTest::Broken,
+        Row::NUMBER => kind_test(table, at, size, Row::NUMBER, depths),
+        Row::VARIABLE => kind_test(table, at, size, Row::VARIABLE, depths),
+        Row::FIXED_RUN => kind_test(table, at, size, Row::FIXED_RUN, depths),
+        Row::COUNTED_RUN => kind_test(table, at, size, Row::COUNTED_RUN, depths),
+        Row::RECORD => kind_test(table, at, size, Row::RECORD, depths),
+        Row::CHOICE => kind_test(table, at, size, Row::CHOICE, depths),
+        Row::OCTETS => kind_test(table, at, size, Row::OCTETS, depths),
+        _ => RowTest::Broken(Refusal::UNKNOWN_KIND),
     }
 }

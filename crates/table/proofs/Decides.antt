@@ -1,8 +1,9 @@
--- The one pass of Verdict.antt decides the rules (Obeys): it passes a table exactly when the table obeys them.
+-- The one pass of Verdict.antt decides the rules (Obeys) and finds the fault (Fault): it passes a table exactly when the table obeys
+-- them, and else tells the first row that breaks one and its first part that does.
 -- Assumes nothing.
-use Prim.Native.Nat.{ℕ, zero, suc, _+_, _-_, _≤_, _<_, max}
+use Prim.Native.Nat.{ℕ, zero, suc, _+_, _≤_, _<_, max}
 use mathlib.Core.Bool.{Bool, true, false, cond, not, _&&_, false≢true, and-eq-true-iff}
-use mathlib.Core.Path.{_≡_, refl, sym, ap, ap₂, _∙_}
+use mathlib.Core.Path.{_≡_, refl, sym, ap, ap₂, _∙_, subst}
 use mathlib.Core.Logic.{_↔_, _≢_}
 use mathlib.Core.List.{List, [], _∷_}
 use native.Mathlib.Omega.{arith}
@@ -13,15 +14,43 @@ use lib.Seq.{getD-set-same, getD-set-other}
 use borrow.Author.Tests.{leb-true, leb-false, eqb-true, le-leb, eq-eqb, ne-eqb}
 use Rattle.item.proofs.CodeLaws.{and-inv}
 use Rattle.answer.specs.Numbers.{refusalAt}
-use Rattle.answer.specs.declared.Refusal.{Refusal}
 use Rattle.octets.specs.Numbers.{u16}
 use Rattle.row.specs.Offsets.{earlier}
 use Rattle.row.specs.Rows.{Row, Number, Variable, FixedRun, CountedRun, Record, Choice, Octets, Unknown, rowAt, rowLength}
-use Rattle.rules.specs.Rules.{Reach, here, on, knownKind, numbersInBounds, references, hasBranch, deepest, depth, All, Earlier, RowObeys, Obeys}
-use Rattle.rules.specs.Tests.{depthIn, allPassed, rowDepth, rowTest}
-use Rattle.table.specs.Verdict.{scan, obeys, passed, broken, verdict}
+use Rattle.rules.specs.Rules.{Reach, here, on, Starts, knownKind, numbersInBounds, references, hasBranch, deepest, depth, All, Earlier, Part, itsEnd, itsKind, itsLength, itsNumbers, itsReferences, itsBranch, itsDepth, partNumber, Keeps, RowObeys, Obeys}
+use Rattle.rules.specs.Tests.{depthIn, allPassed, rowDepth, RowVerdict, sound, faulty, demand, rowVerdict}
+use Rattle.table.specs.Faults.{FirstBroken, Fault, tooSmall, tooLarge, inRow}
+use Rattle.table.specs.Verdict.{Verdict, passed, broken, onSound, scan, verdict}
 use Rattle.row.proofs.Offsets.{earlier-is}
 use Rattle.rules.proofs.Depths.{depth-row}
+
+-- ── parts ──
+
+-- the part of a number, which is its own
+partOf : ℕ → Part
+partOf n = cond (eqb n 20) itsEnd (cond (eqb n 21) itsKind (cond (eqb n 22) itsLength (cond (eqb n 23) itsNumbers (cond (eqb n 24) itsReferences (cond (eqb n 25) itsBranch itsDepth)))))
+
+part-back : (q : Part) → partOf (partNumber q) ≡ q
+unfolding partOf
+part-back itsEnd = refl
+part-back itsKind = refl
+part-back itsLength = refl
+part-back itsNumbers = refl
+part-back itsReferences = refl
+part-back itsBranch = refl
+part-back itsDepth = refl
+
+part-same : (p q : Part) → partNumber p ≡ partNumber q → p ≡ q
+part-same p q e = sym (part-back p) ∙ ap partOf e ∙ part-back q
+
+part-within : (q : Part) → (20 ≤ partNumber q) × (partNumber q ≤ 26)
+part-within itsEnd = (omega arith, omega arith)
+part-within itsKind = (omega arith, omega arith)
+part-within itsLength = (omega arith, omega arith)
+part-within itsNumbers = (omega arith, omega arith)
+part-within itsReferences = (omega arith, omega arith)
+part-within itsBranch = (omega arith, omega arith)
+part-within itsDepth = (omega arith, omega arith)
 
 -- ── the scan decides the rules ──
 
@@ -81,45 +110,69 @@ module _ {t : List ℕ} {o : ℕ} {d : List ℕ} (i : Passed t o d) where
   unfolding rowDepth
   row-depth h = ap suc (all-same (references (rowAt t o)) h) ∙ sym (depth-row t o)
 
-  row-sound : rowTest t o d ≡ true → RowObeys t o
-  unfolding rowTest
-  row-sound h =
-      let r0 = and-inv (leb (o + 4) (length t)) _ h in
-      let r1 = and-inv (leb (o + u16 t o) (length t)) _ (r0 .1) in
-      let k = and-inv (knownKind (rowAt t o)) _ (r1 .1) in
-      let a = and-inv (eqb (u16 t o) (rowLength (rowAt t o))) _ (k .1) in
-      let b = and-inv (numbersInBounds (rowAt t o)) _ (a .1) in
-      let c = and-inv (allPassed d (references (rowAt t o))) _ (b .1) in
-      let e = and-inv (hasBranch (rowAt t o)) _ (c .1) in
-      let s = all-sound (references (rowAt t o)) (c .0) in
-      record {
-        kindKnown = k .0;
-        lengthRight = eqb-true _ _ (a .0);
-        numbersRight = b .0;
-        referencesEarlier = s;
-        branchThere = e .0;
-        depthWithin = omega (arith, row-depth s, leb-true (rowDepth t o d) 32 (e .1));
-      }
+  -- ── each test holds exactly where its part keeps the rule ──
 
-  -- the row ends within the table
-  row-inside : rowTest t o d ≡ true → o + u16 t o ≤ length t
-  unfolding rowTest
-  row-inside h =
-      let r0 = and-inv (leb (o + 4) (length t)) _ h in
-      let r1 = and-inv (leb (o + u16 t o) (length t)) _ (r0 .1) in
-      leb-true (o + u16 t o) (length t) (r1 .0)
+  ends-keeps : leb (o + 4) (length t) && leb (o + u16 t o) (length t) ≡ true → Keeps t o itsEnd
+  ends-keeps h = let x = and-inv (leb (o + 4) (length t)) _ h in (leb-true (o + 4) (length t) (x .0), leb-true (o + u16 t o) (length t) (x .1))
 
-  row-complete : RowObeys t o → o + 4 ≤ length t → o + u16 t o ≤ length t → rowTest t o d ≡ true
-  unfolding rowTest
-  row-complete h four inside =
-      and-true _ _ (le-leb (o + 4) (length t) four)
-      (and-true _ _ (le-leb (o + u16 t o) (length t) inside)
-      (and-true _ _ (h .kindKnown)
-      (and-true _ _ (eq-eqb _ _ (h .lengthRight))
-      (and-true _ _ (h .numbersRight)
-      (and-true _ _ (all-complete (references (rowAt t o)) (h .referencesEarlier))
-      (and-true _ _ (h .branchThere)
-      (le-leb (rowDepth t o d) 32 (omega (arith, row-depth (h .referencesEarlier), h .depthWithin)))))))))
+  ends-test : Keeps t o itsEnd → leb (o + 4) (length t) && leb (o + u16 t o) (length t) ≡ true
+  ends-test h = and-true _ _ (le-leb (o + 4) (length t) (h .0)) (le-leb (o + u16 t o) (length t) (h .1))
+
+  deep-keeps : Keeps t o itsReferences → leb (rowDepth t o d) 32 ≡ true → Keeps t o itsDepth
+  deep-keeps s h = omega (arith, row-depth s, leb-true (rowDepth t o d) 32 h)
+
+  deep-test : Keeps t o itsReferences → Keeps t o itsDepth → leb (rowDepth t o d) 32 ≡ true
+  deep-test s h = le-leb (rowDepth t o d) 32 (omega (arith, row-depth s))
+
+  -- what a verdict says of the parts from a number on
+  abbrev From : ℕ → RowVerdict → Type 0
+  From n sound = (q : Part) → n ≤ partNumber q → Keeps t o q
+  From n (faulty part) = ((q : Part) → n ≤ partNumber q → partNumber q < partNumber part → Keeps t o q) × (Keeps t o part → ⊥)
+
+  -- one part, and those after it
+  one-more : (part q : Part) → Keeps t o part → partNumber part ≤ partNumber q → (suc (partNumber part) ≤ partNumber q → Keeps t o q) → Keeps t o q
+  one-more part q h l k = go (ℕ-discrete (partNumber part) (partNumber q))
+    where
+      go : Dec (partNumber part ≡ partNumber q) → Keeps t o q
+      go (yes e) = subst (λ (q : Part). Keeps t o q) (part-same part q e) h
+      go (no n) = k (omega arith)
+
+  kept-on : (part : Part) (v : RowVerdict) → Keeps t o part → From (suc (partNumber part)) v → From (partNumber part) v
+  kept-on part sound h f = λ q l. one-more part q h l (f q)
+  kept-on part (faulty r) h f = (λ q l m. one-more part q h l (λ k. f .0 q k m), f .1)
+
+  step : (b : Bool) (part : Part) (v : RowVerdict) → (b ≡ true → Keeps t o part) → (Keeps t o part → b ≡ true)
+      → (Keeps t o part → From (suc (partNumber part)) v) → From (partNumber part) (demand b part v)
+  step true part v s c k = kept-on part v (s refl) (k (s refl))
+  step false part v s c k = (λ q l m. absurd (omega arith), λ h. false≢true (c h))
+
+  row-from : From 20 (rowVerdict t o d)
+  unfolding rowVerdict
+  row-from =
+      let r = rowAt t o in
+      let deep = demand (leb (rowDepth t o d) 32) itsDepth sound in
+      let branched = demand (hasBranch r) itsBranch deep in
+      let referring = demand (allPassed d (references r)) itsReferences branched in
+      let numbered = demand (numbersInBounds r) itsNumbers referring in
+      let long = demand (eqb (u16 t o) (rowLength r)) itsLength numbered in
+      let known = demand (knownKind r) itsKind long in
+      step _ itsEnd known ends-keeps ends-test (λ _.
+      step _ itsKind long (λ h. h) (λ h. h) (λ _.
+      step _ itsLength numbered (eqb-true _ _) (eq-eqb _ _) (λ _.
+      step _ itsNumbers referring (λ h. h) (λ h. h) (λ _.
+      step _ itsReferences branched (all-sound (references r)) (all-complete (references r)) (λ s.
+      step _ itsBranch deep (λ h. h) (λ h. h) (λ _.
+      step _ itsDepth sound (deep-keeps s) (deep-test s) (λ _ q l. absurd (omega (arith, part-within q .1)))))))))
+
+  -- a row that passes keeps the rule for every part
+  row-sound : rowVerdict t o d ≡ sound → (q : Part) → Keeps t o q
+  row-sound e q = subst (λ (v : RowVerdict). From 20 v) e row-from q (part-within q .0)
+
+  -- and one that doesn't breaks that for a part, and keeps those before it
+  row-faulty : (part : Part) → rowVerdict t o d ≡ faulty part → ((q : Part) → partNumber q < partNumber part → Keeps t o q) × (Keeps t o part → ⊥)
+  row-faulty part e =
+      let f = subst (λ (v : RowVerdict). From 20 v) e row-from in
+      (λ q. f .0 q (part-within q .0), f .1)
 
   before : Reach t 0 o → (p : ℕ) → Reach t 0 p → p < o + u16 t o → p ≢ o → p < o
   before r p q l n = go (leb o p) refl
@@ -161,6 +214,17 @@ length-four Unknown h = absurd (false≢true h)
 pub row-four : {t : List ℕ} {o : ℕ} → RowObeys t o → 4 ≤ u16 t o
 row-four {t} {o} h = omega (arith, h .lengthRight, length-four (rowAt t o) (h .kindKnown))
 
+-- a row that keeps the rule for every part
+all-obeys : {t : List ℕ} {o : ℕ} → ((q : Part) → Keeps t o q) → RowObeys t o
+all-obeys k = record {
+  kindKnown = k itsKind;
+  lengthRight = k itsLength;
+  numbersRight = k itsNumbers;
+  referencesEarlier = k itsReferences;
+  branchThere = k itsBranch;
+  depthWithin = k itsDepth;
+}
+
 record Scanned (t : List ℕ) (o : ℕ) : Type 0 where
   filled : Reach t o (length t)
   rows : (p : ℕ) → Reach t o p → p < length t → RowObeys t p
@@ -181,37 +245,69 @@ ahead here h = absurd (omega arith)
 ahead (on l r) h = (l, r)
 
 module _ (t : List ℕ) (small : length t ≤ 4096) where
-  scan-sound : (f o : ℕ) (d : List ℕ) → Passed t o d → Reach t 0 o → o ≤ length t → scan f t o d ≡ true → Scanned t o
-  scan-sound zero o d i r m h = absurd (false≢true h)
-  scan-sound (suc f) o d i r m h = go (ℕ-discrete o (length t)) (scan-sound f (o + u16 t o) (set d o (rowDepth t o d)))
-    where
-      go : Dec (o ≡ length t)
-          → (Passed t (o + u16 t o) (set d o (rowDepth t o d)) → Reach t 0 (o + u16 t o) → o + u16 t o ≤ length t → scan f t (o + u16 t o) (set d o (rowDepth t o d)) ≡ true → Scanned t (o + u16 t o))
-          → Scanned t o
-      go (yes e) ih = rw e (scanned-end t)
-      go (no n) ih =
-          let h′ : rowTest t o d && scan f t (o + u16 t o) (set d o (rowDepth t o d)) ≡ true = rw (ne-eqb o (length t) n) at h in
-          let b = and-inv (rowTest t o d) _ h′ in
-          let l : o < length t = omega arith in
-          let w = row-sound i (b .0) in
-          let u = row-four w in
-          scanned-on (ih (passed-on i r (omega arith) (omega arith) w) (reach-on r l) (row-inside i (b .0)) (b .1)) l w
+  -- the rows before o keep the rules
+  abbrev So-far : ℕ → Type 0
+  So-far o = (p : ℕ) → Starts t p → p < o → (q : Part) → Keeps t p q
 
-  scan-complete : (f o : ℕ) (d : List ℕ) → Passed t o d → Reach t 0 o → Scanned t o → length t < o + f → scan f t o d ≡ true
-  scan-complete zero o d i r s h = absurd (omega (arith, reach-le (s .filled)))
-  scan-complete (suc f) o d i r s h = go (ℕ-discrete o (length t)) (scan-complete f (o + u16 t o) (set d o (rowDepth t o d)))
+  so-far-on : (o : ℕ) (d : List ℕ) → Passed t o d → Reach t 0 o → So-far o → ((q : Part) → Keeps t o q) → So-far (o + u16 t o)
+  so-far-on o d i r so k p s l = go (ℕ-discrete p o)
     where
-      go : Dec (o ≡ length t) → (Passed t (o + u16 t o) (set d o (rowDepth t o d)) → Reach t 0 (o + u16 t o) → Scanned t (o + u16 t o) → length t < o + u16 t o + f
-          → scan f t (o + u16 t o) (set d o (rowDepth t o d)) ≡ true) → scan (suc f) t o d ≡ true
-      go (yes e) ih = rw (eq-eqb o (length t) e)
-      go (no n) ih =
-          let m = reach-le (s .filled) in
-          let a = ahead (s .filled) (omega arith) in
-          let w = s .rows o here (a .0) in
+      go : Dec (p ≡ o) → (q : Part) → Keeps t p q
+      go (yes e) = rw e k
+      go (no n) = so p s (before i r p (s .0) l n)
+
+  -- what the scan from o on finds: that all rows obey, or the first that doesn't
+  abbrev Found : ℕ → Verdict → Type 0
+  Found o passed = Scanned t o
+  Found o (broken r) = (p : ℕ) × (part : Part) × FirstBroken t p part × (r ≡ refusalAt (partNumber part) p)
+
+  found-on : (o : ℕ) (v : Verdict) → o < length t → RowObeys t o → Found (o + u16 t o) v → Found o v
+  found-on o passed l w s = scanned-on s l w
+  found-on o (broken r) l w x = x
+
+  -- where all is well up to o
+  record Ready (o : ℕ) (d : List ℕ) : Type 0 where
+    depths : Passed t o d
+    reached : Reach t 0 o
+    inside : o ≤ length t
+    rows : So-far o
+
+  ready-on : (o : ℕ) (d : List ℕ) → Ready o d → o < length t → ((q : Part) → Keeps t o q) → Ready (o + u16 t o) (set d o (rowDepth t o d))
+  ready-on o d y l k =
+      let w = all-obeys k in
+      let u = row-four w in
+      record {
+        depths = passed-on (y .depths) (y .reached) (omega arith) (omega arith) w;
+        reached = reach-on (y .reached) l;
+        inside = k itsEnd .1;
+        rows = so-far-on o d (y .depths) (y .reached) (y .rows) k;
+      }
+
+  -- the verdict on the rows after the one at o
+  abbrev later : ℕ → ℕ → List ℕ → Verdict
+  later f o d = scan f t (o + u16 t o) (set d o (rowDepth t o d))
+
+  scan-finds : (f o : ℕ) (d : List ℕ) → Ready o d → length t < o + f → Found o (scan f t o d)
+  scan-finds zero o d y h = absurd (omega (arith, y .inside))
+  scan-finds (suc f) o d y h = go (ℕ-discrete o (length t)) (scan-finds f (o + u16 t o) (set d o (rowDepth t o d)))
+    where
+      tested : o < length t → (v : RowVerdict) → rowVerdict t o d ≡ v
+          → (Ready (o + u16 t o) (set d o (rowDepth t o d)) → length t < o + u16 t o + f → Found (o + u16 t o) (later f o d))
+          → Found o (onSound v o (later f o d))
+      tested l (faulty part) e ih =
+          let x = row-faulty (y .depths) part e in
+          (o, part, record { starts = (y .reached, l); rowsBefore = y .rows; partsBefore = x .0; breaks = x .1 }, refl)
+      tested l sound e ih =
+          let k = row-sound (y .depths) e in
+          let w = all-obeys k in
           let u = row-four w in
-          let k = reach-le (a .1) in
-          let x = ih (passed-on i r (omega arith) (omega arith) w) (reach-on r (a .0)) (record { filled = a .1; rows = λ p q. s .rows p (on (a .0) q) }) (omega arith) in
-          rw (ne-eqb o (length t) n) (and-true _ _ (row-complete i w (omega arith) k) x)
+          found-on o (later f o d) l w (ih (ready-on o d y l k) (omega arith))
+
+      go : Dec (o ≡ length t)
+          → (Ready (o + u16 t o) (set d o (rowDepth t o d)) → length t < o + u16 t o + f → Found (o + u16 t o) (later f o d))
+          → Found o (scan (suc f) t o d)
+      go (yes e) ih = rw (eq-eqb o (length t) e) (subst (λ (x : ℕ). Scanned t x) (sym e) (scanned-end t))
+      go (no n) ih = rw (ne-eqb o (length t) n) (tested (omega (arith, y .inside)) (rowVerdict t o d) refl ih)
 
 getD-zeros : (n r : ℕ) → depthIn (replicate n 0) r ≡ 0
 getD-zeros zero r = refl
@@ -225,27 +321,96 @@ start t n e = record {
   only = λ r h. absurd (h (getD-zeros n r));
 }
 
-obeys-sound : (t : List ℕ) → obeys t ≡ true → Obeys t
-unfolding obeys
-obeys-sound t h =
-    let a = and-inv (leb 4 (length t)) _ h in
-    let b = and-inv (leb (length t) 4096) _ (a .1) in
-    let m = leb-true (length t) 4096 (b .0) in
-    let s = scan-sound t m (suc (length t)) 0 (replicate 4096 0) (start t 4096 refl) here (omega arith) (b .1) in
-    record { least = leb-true 4 (length t) (a .0); most = m; filled = s .filled; rows = λ o p. s .rows o (p .0) (p .1) }
+-- ── the verdict ──
 
-obeys-complete : (t : List ℕ) → Obeys t → obeys t ≡ true
-unfolding obeys
-obeys-complete t h =
-    and-true _ _ (le-leb 4 (length t) (h .least))
-    (and-true _ _ (le-leb (length t) 4096 (h .most))
-    (scan-complete t (h .most) (suc (length t)) 0 (replicate 4096 0) (start t 4096 refl) here (record { filled = h .filled; rows = λ o r l. h .rows o (r, l) }) (omega arith)))
+-- what a verdict says of a table
+abbrev Says : List ℕ → Verdict → Type 0
+Says t passed = Obeys t
+Says t (broken r) = Fault t (r .number) (r .place)
 
-passed-inv : (b : Bool) (refusal : Refusal) → cond b passed (broken refusal) ≡ passed → b ≡ true
-passed-inv true refusal e = refl
-passed-inv false refusal e = cc
+says : (t : List ℕ) → Says t (verdict t)
+unfolding verdict
+says t = go (leb 4 (length t)) refl (leb (length t) 4096) refl
+  where
+    found : (least : 4 ≤ length t) (most : length t ≤ 4096) (v : Verdict) → Found t most 0 v → Says t v
+    found least most passed s = record { least = least; most = most; filled = s .filled; rows = λ o p. s .rows o (p .0) (p .1) }
+    found least most (broken r) x = rw (x .3) (inRow least most (x .2))
+
+    go : (a : Bool) → leb 4 (length t) ≡ a → (b : Bool) → leb (length t) 4096 ≡ b
+        → Says t (cond (a && b) (scan (suc (length t)) t 0 (replicate 4096 0)) (broken (refusalAt 1 0)))
+    go false ea b eb = tooSmall (leb-false 4 (length t) ea)
+    go true ea false eb = tooLarge (leb-false (length t) 4096 eb)
+    go true ea true eb =
+        let most = leb-true (length t) 4096 eb in
+        found (leb-true 4 (length t) ea) most (scan (suc (length t)) t 0 (replicate 4096 0))
+        (scan-finds t most (suc (length t)) 0 (replicate 4096 0)
+        (record { depths = start t 4096 refl; reached = here; inside = omega arith; rows = λ p s l. absurd (omega arith) }) (omega arith))
+
+-- ── one fault, or none ──
+
+-- every row of a table that obeys the rules keeps the rule for every part
+keeps-all : (t : List ℕ) (o : ℕ) → Obeys t → Starts t o → (q : Part) → Keeps t o q
+keeps-all t o h s = go
+  where
+    w : RowObeys t o
+    w = h .rows o s
+
+    inside : o + u16 t o ≤ length t
+    inside = apart (s .0) (h .filled) (omega (arith, s .1)) (λ e. omega (arith, s .1))
+
+    go : (q : Part) → Keeps t o q
+    go itsEnd = (omega (arith, row-four w, inside), inside)
+    go itsKind = w .kindKnown
+    go itsLength = w .lengthRight
+    go itsNumbers = w .numbersRight
+    go itsReferences = w .referencesEarlier
+    go itsBranch = w .branchThere
+    go itsDepth = w .depthWithin
+
+pub no-fault : (t : List ℕ) (n p : ℕ) → Obeys t → Fault t n p → ⊥
+no-fault t n p h (tooSmall l) = omega (arith, h .least)
+no-fault t n p h (tooLarge l) = omega (arith, h .most)
+no-fault t n p h (inRow {o} {part} a b f) = f .breaks (keeps-all t o h (f .starts) part)
+
+-- the first row, and the first part of it
+first-one : (t : List ℕ) (o p : ℕ) (q r : Part) → FirstBroken t o q → FirstBroken t p r → (partNumber q ≡ partNumber r) × (o ≡ p)
+first-one t o p q r a b = go (ℕ-discrete o p) (leb o p) refl
+  where
+    same-row : o ≡ p → (x : Bool) → leb (partNumber q) (partNumber r) ≡ x → (y : Bool) → leb (partNumber r) (partNumber q) ≡ y → partNumber q ≡ partNumber r
+    same-row e false ex y ey = absurd (b .breaks (rw (← e) (a .partsBefore r (leb-false (partNumber q) (partNumber r) ex))))
+    same-row e true ex false ey = absurd (a .breaks (rw e (b .partsBefore q (leb-false (partNumber r) (partNumber q) ey))))
+    same-row e true ex true ey = omega (arith, leb-true (partNumber q) (partNumber r) ex, leb-true (partNumber r) (partNumber q) ey)
+
+    go : Dec (o ≡ p) → (x : Bool) → leb o p ≡ x → (partNumber q ≡ partNumber r) × (o ≡ p)
+    go (yes e) x ex = (same-row e (leb (partNumber q) (partNumber r)) refl (leb (partNumber r) (partNumber q)) refl, e)
+    go (no n) true ex = absurd (a .breaks (b .rowsBefore o (a .starts) (omega (arith, leb-true o p ex)) q))
+    go (no n) false ex = absurd (b .breaks (a .rowsBefore p (b .starts) (leb-false o p ex) r))
+
+pub one-fault : (t : List ℕ) (n p m q : ℕ) → Fault t n p → Fault t m q → (n ≡ m) × (p ≡ q)
+one-fault t n p m q (tooSmall a) (tooSmall b) = (refl, refl)
+one-fault t n p m q (tooSmall a) (tooLarge b) = (refl, refl)
+one-fault t n p m q (tooSmall a) (inRow b c d) = absurd (omega arith)
+one-fault t n p m q (tooLarge a) (tooSmall b) = (refl, refl)
+one-fault t n p m q (tooLarge a) (tooLarge b) = (refl, refl)
+one-fault t n p m q (tooLarge a) (inRow b c d) = absurd (omega arith)
+one-fault t n p m q (inRow a b c) (tooSmall d) = absurd (omega arith)
+one-fault t n p m q (inRow a b c) (tooLarge d) = absurd (omega arith)
+one-fault t n p m q (inRow a b c) (inRow d e f) = first-one t _ _ _ _ c f
+
+-- ── exactly ──
 
 -- the verdict passes a table exactly when it obeys the rules
 pub passes-exactly : (t : List ℕ) → (verdict t ≡ passed) ↔ Obeys t
-unfolding verdict
-passes-exactly t = (λ e. obeys-sound t (passed-inv (obeys t) (refusalAt 1 0) e), λ h. rw (obeys-complete t h))
+passes-exactly t = (λ e. subst (λ (v : Verdict). Says t v) e (says t), λ h. go (verdict t) (says t) h)
+  where
+    go : (v : Verdict) → Says t v → Obeys t → v ≡ passed
+    go passed s h = refl
+    go (broken r) s h = absurd (no-fault t (r .number) (r .place) h s)
+
+-- and breaks it with a number at a place exactly when these are its fault
+pub refuses-exactly : (t : List ℕ) (n p : ℕ) → (verdict t ≡ broken (refusalAt n p)) ↔ Fault t n p
+refuses-exactly t n p = (λ e. subst (λ (v : Verdict). Says t v) e (says t), λ f. go (verdict t) (says t) f)
+  where
+    go : (v : Verdict) → Says t v → Fault t n p → v ≡ broken (refusalAt n p)
+    go passed s f = absurd (no-fault t n p s f)
+    go (broken r) s f = let e = one-fault t (r .number) (r .place) n p s f in ap₂ (λ n p. broken (refusalAt n p)) (e .0) (e .1)

@@ -1,4 +1,6 @@
 pub mod Decides
+pub mod Checks
+pub mod Cases
 pub mod Obeyed
 pub mod LastRow
 pub mod Walk

@@ -9,14 +9,14 @@ use lib.Dec.{leb, eqb}
 use lib.ListN.{length, set, replicate}
 use borrow.Author.Tests.{leb-true, eqb-true, le-leb, lt-leb, eq-eqb, ne-eqb}
 use Rattle.octets.specs.Numbers.{u16}
-use Rattle.answer.specs.Numbers.{accepted, refused}
+use Rattle.answer.specs.Numbers.{refusalAt, accepted, refused}
 use Rattle.row.specs.Rows.{rowAt, rowLength}
-use Rattle.rules.specs.Rules.{knownKind}
-use Rattle.rules.specs.Tests.{rowTest, rowDepth}
-use Rattle.table.specs.Verdict.{scan, obeys, verdict, checked}
-use Rattle.rules.specs.Steps.{spread, rowTested}
+use Rattle.rules.specs.Rules.{knownKind, Part, itsEnd, itsKind, itsLength, partNumber}
+use Rattle.rules.specs.Tests.{RowVerdict, sound, faulty, demand, rowVerdict, rowDepth}
+use Rattle.table.specs.Verdict.{passed, broken, onSound, scan, verdict, checked}
+use Rattle.rules.specs.Steps.{spread, toldAs, rowTested}
 use Rattle.rules.specs.declared.RowTest.the-variants.{Sound, Broken}
-use Rattle.row.proofs.Bools.{cond-second, and-false}
+use Rattle.row.proofs.Bools.{and-false}
 use Rattle.table.proofs.Decides.{length-four}
 use Rattle.rules.proofs.Halves.{length-even, spread-set, spread-zeros}
 
@@ -24,32 +24,41 @@ use Rattle.rules.proofs.Halves.{length-even, spread-set, spread-zeros}
 
 -- what a row that passes gives
 record Passes (t : List ℕ) (o : ℕ) (d : List ℕ) (l x : ℕ) : Type 0 where
-  test : rowTest t o d ≡ true
+  test : rowVerdict t o d ≡ sound
   length-is : l ≡ u16 t o
   depth-is : x ≡ rowDepth t o d
 
 sound-passes : (t : List ℕ) (o : ℕ) (d : List ℕ) (l x : ℕ) → rowTested t o d ≡ Sound l x → Passes t o d l x
 unfolding rowTested
-sound-passes t o d l x e = go (rowTest t o d) refl e
+sound-passes t o d l x e = go (rowVerdict t o d) refl e
   where
-    go : (b : Bool) → rowTest t o d ≡ b → cond b (Sound (u16 t o) (rowDepth t o d)) Broken ≡ Sound l x → Passes t o d l x
-    go true h e = record { test = h; length-is = cc; depth-is = cc }
-    go false h e = absurd (let z : _≡_ {A = ℕ} 0 1 = cc in omega arith)
+    go : (v : RowVerdict) → rowVerdict t o d ≡ v → toldAs v (u16 t o) (rowDepth t o d) ≡ Sound l x → Passes t o d l x
+    go sound h e = record { test = h; length-is = cc; depth-is = cc }
+    go (faulty part) h e = absurd (let z : _≡_ {A = ℕ} 0 1 = cc in omega arith)
 
-broken-fails : (t : List ℕ) (o : ℕ) (d : List ℕ) → rowTested t o d ≡ Broken → rowTest t o d ≡ false
+broken-fails : (t : List ℕ) (o : ℕ) (d : List ℕ) (n : ℕ) → rowTested t o d ≡ Broken n → (part : Part) × (rowVerdict t o d ≡ faulty part) × (partNumber part ≡ n)
 unfolding rowTested
-broken-fails t o d e = cond-second (rowTest t o d) _ Broken (λ q. let z : _≡_ {A = ℕ} 0 1 = cc in omega arith) e
+broken-fails t o d n e = go (rowVerdict t o d) refl e
+  where
+    go : (v : RowVerdict) → rowVerdict t o d ≡ v → toldAs v (u16 t o) (rowDepth t o d) ≡ Broken n
+        → (part : Part) × (rowVerdict t o d ≡ faulty part) × (partNumber part ≡ n)
+    go sound h e = absurd (let z : _≡_ {A = ℕ} 0 1 = cc in omega arith)
+    go (faulty part) h e = (part, h, cc)
+
+demand-inv : (b : Bool) (part : Part) (v : RowVerdict) → demand b part v ≡ sound → (b ≡ true) × (v ≡ sound)
+demand-inv true part v e = (refl, e)
+demand-inv false part v e = (cc, cc)
 
 -- a row that passes ends inside the table, and has four octets at least and an even number of them
 pub row-moves : (t : List ℕ) (o : ℕ) (d : List ℕ) (l x : ℕ) → rowTested t o d ≡ Sound l x → (o + l ≤ length t) × (4 ≤ l) × (l % 2 ≡ 0)
-unfolding rowTest
+unfolding rowVerdict
 row-moves t o d l x e =
     let p = sound-passes t o d l x e in
-    let a = and-eq-true-iff (leb (o + 4) (length t)) _ .0 (p .test) in
-    let b = and-eq-true-iff (leb (o + u16 t o) (length t)) _ .0 (a .1) in
-    let k = and-eq-true-iff (knownKind (rowAt t o)) _ .0 (b .1) in
-    let w = and-eq-true-iff (eqb (u16 t o) (rowLength (rowAt t o))) _ .0 (k .1) in
-    let i = leb-true (o + u16 t o) (length t) (b .0) in
+    let a = demand-inv (leb (o + 4) (length t) && leb (o + u16 t o) (length t)) itsEnd _ (p .test) in
+    let b = and-eq-true-iff (leb (o + 4) (length t)) _ .0 (a .0) in
+    let k = demand-inv (knownKind (rowAt t o)) itsKind _ (a .1) in
+    let w = demand-inv (eqb (u16 t o) (rowLength (rowAt t o))) itsLength _ (k .1) in
+    let i = leb-true (o + u16 t o) (length t) (b .1) in
     let s = eqb-true (u16 t o) (rowLength (rowAt t o)) (w .0) in
     let f = length-four (rowAt t o) (k .0) in
     let v = length-even (rowAt t o) in
@@ -68,15 +77,15 @@ module _ (t d₀ : List ℕ) (o : ℕ) (h : List ℕ) (left : Left t d₀ o h) w
   abbrev d : List ℕ
   d = spread h
 
-  pub left-ends : length t ≡ o → scan (suc (length t)) t 0 d₀ ≡ true
+  pub left-ends : length t ≡ o → scan (suc (length t)) t 0 d₀ ≡ passed
   left-ends e = left .2 ∙ rw (eq-eqb o (length t) (sym e))
 
   module _ (inside : o < length t) where
-    scan-row : (g : ℕ) → scan (suc g) t o d ≡ rowTest t o d && scan g t (o + u16 t o) (set d o (rowDepth t o d))
+    scan-row : (g : ℕ) → scan (suc g) t o d ≡ onSound (rowVerdict t o d) o (scan g t (o + u16 t o) (set d o (rowDepth t o d)))
     scan-row g = rw (ne-eqb o (length t) (λ e. omega arith))
 
-    pub left-broken : rowTested t o d ≡ Broken → scan (suc (length t)) t 0 d₀ ≡ false
-    left-broken e = left .2 ∙ scan-row (left .0) ∙ rw (broken-fails t o d e)
+    pub left-broken : (n : ℕ) → rowTested t o d ≡ Broken n → scan (suc (length t)) t 0 d₀ ≡ broken (refusalAt n o)
+    left-broken n e = let f = broken-fails t o d n e in left .2 ∙ scan-row (left .0) ∙ rw (f .1, f .2)
 
     more : (g : ℕ) → length t < o + suc g → (k : ℕ) × (g ≡ suc k)
     more zero h = absurd (omega arith)
@@ -98,26 +107,21 @@ module _ (t d₀ : List ℕ) (o : ℕ) (h : List ℕ) (left : Left t d₀ o h) w
 -- ── the verdict ──
 
 module _ (t : List ℕ) where
-  unsound : obeys t ≡ false → refused 1 0 ≡ checked (verdict t)
-  unfolding verdict
-  unsound e = rw e
-
   pub small-broken : length t < 4 → refused 1 0 ≡ checked (verdict t)
-  unfolding obeys
-  small-broken h = unsound (rw (lt-leb 4 (length t) h))
+  unfolding verdict
+  small-broken h = rw (lt-leb 4 (length t) h)
 
   pub large-broken : 4096 < length t → refused 1 0 ≡ checked (verdict t)
-  unfolding obeys
-  large-broken h = unsound (rw (lt-leb (length t) 4096 h) (and-false (leb 4 (length t))))
+  unfolding verdict
+  large-broken h = rw (lt-leb (length t) 4096 h, and-false (leb 4 (length t)))
 
   module _ (least : 4 ≤ length t) (most : length t ≤ 4096) where
-    sized : obeys t ≡ scan (suc (length t)) t 0 (replicate 4096 0)
-    unfolding obeys
+    sized : verdict t ≡ scan (suc (length t)) t 0 (replicate 4096 0)
+    unfolding verdict
     sized = rw (le-leb 4 (length t) least, le-leb (length t) 4096 most)
 
-    pub scan-broken : scan (suc (length t)) t 0 (replicate 4096 0) ≡ false → refused 1 0 ≡ checked (verdict t)
-    scan-broken e = unsound (sized ∙ e)
+    pub scan-broken : (n o : ℕ) → scan (suc (length t)) t 0 (replicate 4096 0) ≡ broken (refusalAt n o) → refused n o ≡ checked (verdict t)
+    scan-broken n o e = sym (ap (λ v. checked v) (sized ∙ e))
 
-    pub scan-passed : scan (suc (length t)) t 0 (replicate 4096 0) ≡ true → accepted 0 0 0 ≡ checked (verdict t)
-    unfolding verdict
-    scan-passed e = rw (sized ∙ e)
+    pub scan-passed : scan (suc (length t)) t 0 (replicate 4096 0) ≡ passed → accepted 0 0 0 ≡ checked (verdict t)
+    scan-passed e = sym (ap (λ v. checked v) (sized ∙ e))

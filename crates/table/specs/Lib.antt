@@ -1,2 +1,5 @@
+pub mod Faults
 pub mod Verdict
+pub mod Checks
+pub mod Cases
 pub mod Root

@@ -8,37 +8,56 @@ use bits::OctetSize;
 use row::Row;
 use rules::RowTest;
 ghost use mathlib.Core.Path.{_≡_};
-ghost use Rattle.answer.specs.Numbers.{refused, brokenTable};
-ghost use Rattle.table.specs.Verdict.{verdict, checked};
+ghost use Rattle.answer.specs.Numbers.{accepted, refused, tableSize};
+ghost use Rattle.table.specs.Verdict.{verdict, checked, answerTo};
 
-// The answer to a table that breaks a rule.
-fn broken() -> Answer
-    ensures { λ r. ⌜ r ≡ refused brokenTable 0 ⌝ }
+// The answer to a table that obeys the rules: a check counts nothing.
+fn sound_table() -> Answer
+    ensures { λ r. ⌜ r ≡ accepted 0 0 0 ⌝ }
 {
-    Answer::refused(Refusal::BROKEN_TABLE, 0)
+    Answer::accepted(0, BitPlace(0), OctetSize(0))
 }
 
-// Whether a table obeys the rules. One pass over its rows: the depth of each that passes is kept at half its offset,
-// which is even.
+// The answer to a table of a size that none may have.
+fn wrong_size() -> Answer
+    ensures { λ r. ⌜ r ≡ refused tableSize 0 ⌝ }
+{
+    Answer::refused(Refusal::TABLE_SIZE, 0)
+}
+
+// The answer that the test of a row at an offset comes to: where it breaks a rule, the number of its part at that offset.
+fn row_answer(test: RowTest, at: usize) -> Answer
+    ensures { λ r. ⌜ r ≡ answerTo test at ⌝ }
+{
+    match test {
+        RowTest::Sound(_, _) => sound_table(),
+        RowTest::Broken(number) => Answer::refused(number, at),
+    }
+}
+
+// Whether a table obeys the rules, or what is the first that it breaks. One pass over its rows: the depth of each that passes is
+// kept at half its offset, which is even.
 pub fn check(table: &[u8]) -> Answer
     ensures { λ r. ⌜ r ≡ checked (verdict (now (table .entry))) ⌝ }
 {
     if table.len() < Row::LEAST_TABLE {
-        return broken();
+        return wrong_size();
     }
     if Row::MOST_TABLE < table.len() {
-        return broken();
+        return wrong_size();
     }
     let mut depths = [0u8; Row::MOST_TABLE / 2];
     let mut at = 0;
-    while at < table.len() {
-        let test = rules::row_test(table, at, &depths);
+    let mut left = table.len();
+    while 0 < left {
+        let test = rules::row_test(table, at, left, &depths);
         let RowTest::Sound(length, depth) = test else {
-            return broken();
+            return row_answer(test, at);
         };
         let half = at / 2;
         depths[half] = depth;
         at += length;
+        left -= length;
     }
-    Answer::accepted(0, BitPlace(0), OctetSize(0))
+    sound_table()
 }

@@ -8,9 +8,9 @@ use Rattle.octets.specs.Numbers.{u16, u32, signed, u16s, there}
 use Rattle.row.specs.Offsets.{earlier, upTo, byOffset}
 use Rattle.row.specs.Rows.{rowOf, rowAt, rowLength, within}
 use Rattle.rules.specs.Rules.{knownKind, flagsInBounds, numbersInBounds, branches, references, someBranch, hasBranch}
-use Rattle.rules.specs.Tests.{rowTest, rowDepth}
+use Rattle.rules.specs.Tests.{rowVerdict, rowDepth}
 use Rattle.table.specs.Root.{rootFrom, root}
-use Rattle.table.specs.Verdict.{passed, verdict, obeys}
+use Rattle.table.specs.Verdict.{passed, verdict}
 use Rattle.table.proofs.Decides.{passes-exactly}
 use Rattle.items.specs.Items.{one, times}
 use Rattle.encoding.specs.Rows.{rowItems}
@@ -18,7 +18,7 @@ use Rattle.visits.specs.Visits.{mark, marked, visitedInReading, visitedI
 use Rattle.visits.specs.Reached.{nested, deep, Reached}
 
 deep-passes : verdict deep ≡ passed
-unfolding nested deep u16 u32 signed u16s there rowOf rowAt rowLength knownKind within flagsInBounds numbersInBounds branches references someBranch hasBranch rowTest rowDepth obeys verdict
+unfolding nested deep u16 u32 signed u16s there rowOf rowAt rowLength knownKind within flagsInBounds numbersInBounds branches references someBranch hasBranch rowVerdict rowDepth verdict
 deep-passes = refl
 
 deep-visited : (visitedInReading deep (0 ∷ []) 0 ≡ 32) × (visitedInWriting deep [] 1 ≡ 32)

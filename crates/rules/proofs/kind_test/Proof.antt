@@ -1,78 +1,104 @@
--- `rules::kind_test` meets its contract. The head tells length, kind and count; each way out after it is a rule of that
--- kind that fails, and the last that all hold.
+-- `rules::kind_test` meets its contract. Each way out is the first part that breaks a rule, and the last that all keep theirs.
 use borrow.Author.Needs.{needs}
-use borrow.Author.Tests.{not-true, not-false}
+use borrow.Author.Tests.{not-true, not-false, eqb-true}
 use native.Mathlib.Omega.{arith}
 use denote.Ref.{now}
-use Prim.Native.Nat.{_+_}
-use mathlib.Core.Path.{_≡_, sym, ap, _∙_}
-use Rattle.octets.specs.Numbers.{u16s}
-use Rattle.rules.specs.Rules.{flagsInBounds}
+use Prim.Native.Nat.{_+_, _≤_}
+use mathlib.Core.Bool.{true}
+use mathlib.Core.Path.{_≡_, refl, sym, _∙_}
+use lib.Dec.{eqb}
+use lib.ListN.{length}
+use Rattle.row.specs.Kinds.{lengthOf, countOf}
+use Rattle.row.proofs.ByKind.{least-length, two-apart}
 use Rattle.rules.specs.Steps.{spread, deepestFrom}
-use Rattle.row.proofs.ByKind.{two-apart}
-use Rattle.rules.proofs.Steps.{Headed, headed, flagsOf, referencesOf, flags-inside, references-inside, head-broken, flag-broken, reference-broken, branch-broken, depth-broken, row-sound}
+use Rattle.rules.proofs.Steps.{numbersOf, referencesOf, length-broken, row-inside, references-inside, numbers-broken, reference-broken, branch-broken, depth-broken, row-sound}
 use Rattle.rules.proofs.kind_test.Statement.{statement}
 use Rattle.rules.proofs.kind_test.Tie as tie
 
--- past the head: its length, kind and count
-head-of : (c : tie.After-known-told) → Headed (now (c .before .before .before .before .before .before .args .table)) (c .before .before .before .before .before .before .args .at) (c .before .head .given .0 .0) (c .before .head .given .0 .1 .0) (c .before .head .given .0 .1 .1 .0)
-head-of c = headed _ _ _ _ _ (sym (c .before .before .before .head-at .ensures) ∙ c .before .head .given .1)
-
--- past the flags: whether they are sound
-flags-of : (c : tie.After-flags-sound)
-    → c .flags-sound .result ≡ flagsInBounds (flagsOf (now (c .before .before .before .before .before .before .before .before .args .table)) (c .before .before .before .before .before .before .before .before .args .at) (c .before .before .before .head .given .0 .1 .0) (c .before .before .before .head .given .0 .1 .1 .0))
-flags-of c = c .flags-sound .ensures ∙ ap (λ n. flagsInBounds (u16s (now (c .before .before .before .before .before .before .before .before .args .table)) (c .before .before .before .before .before .before .before .before .args .at + 8) 4 n)) (c .before .flag-count .ensures)
-
--- past the references: what the rows referred to give
-deepest-of : (c : tie.After-deepest)
-    → deepestFrom (spread (now (c .before .before .before .before .before .before .before .before .before .before .before .before .before .args .depths))) 0 (referencesOf (now (c .before .before .before .before .before .before .before .before .before .before .before .before .before .args .table)) (c .before .before .before .before .before .before .before .before .before .before .before .before .before .args .at) (c .before .before .before .before .before .before .before .before .head .given .0 .1 .0) (c .before .before .before .before .before .before .before .before .head .given .0 .1 .1 .0)) ≡ c .deepest .result
-deepest-of c =
-    sym (rw (c .before .before .before .reference-step .ensures, c .before .before .reference-count .ensures, c .before .may-reserve .ensures) at (c .deepest .ensures))
-
 returns : tie.Need-returns
 returns c =
-    let a = c .before .before .before .before .before .args in
-    head-broken (now (a .table)) (a .at) (spread (now (a .depths))) (sym (c .before .before .head-at .ensures) ∙ c .enum-told .given .1)
+    let s = c .before .before .before .before in
+    length-broken (spread (now (s .args .depths))) (s .pre .1) _ refl (sym (c .before .length-right .ensures) ∙ not-true (c .before .length-right .result) (c .if1 .taken))
 
-flags-sound-requires : tie.Need-flags-sound-requires
-flags-sound-requires c κs = rw (c .flag-count .ensures) (flags-inside (head-of (c .before)))
+count-of-requires : tie.Need-count-of-requires
+count-of-requires c κs =
+    let s = c .before .before .before .before in
+    let m = countOf (now (s .args .table)) (s .args .at) (s .args .kind) in
+    let e = eqb-true (s .args .size) (lengthOf (s .args .kind) m) (sym (c .before .length-right .ensures) ∙ not-false (c .before .length-right .result) (c .if1 .left)) in
+    omega (arith, least-length (s .args .kind) m (s .pre .1 .known), s .pre .1 .inside)
+
+-- past the count: the length is that of the kind with it
+long : (c : tie.After-count-of) → eqb (c .before .before .before .before .before .args .size) (lengthOf (c .before .before .before .before .before .args .kind) (c .count-of .result)) ≡ true
+long c = rw (c .count-of .ensures .0) (sym (c .before .before .length-right .ensures) ∙ not-false (c .before .before .length-right .result) (c .before .if1 .left))
+
+numbers-right-requires : tie.Need-numbers-right-requires
+numbers-right-requires c κs =
+    let s = c .before .before .before .before .before in
+    (row-inside (spread (now (s .args .depths))) (s .pre .1) (c .count-of .result) (c .count-of .ensures .0) (long c), s .pre .0)
 
 returns-2 : tie.Need-returns-2
 returns-2 c =
-    flag-broken (spread (now (c .before .before .before .before .before .before .before .before .before .args .depths))) (head-of (c .before .before .before)) (sym (flags-of (c .before)) ∙ not-true (c .before .flags-sound .result) (c .if1 .taken))
+    let s = c .before .before .before .before .before .before .before in
+    let m = c .before .before .count-of in
+    numbers-broken (spread (now (s .args .depths))) (s .pre .1) (m .result) (m .ensures .0) (long (c .before .before))
+    (sym (c .before .numbers-right .ensures) ∙ not-true (c .before .numbers-right .result) (c .if2 .taken))
+
+-- past the numbers: they are in bounds
+bounded : (c : tie.After-reference-step) → numbersOf (now (c .before .before .before .before .before .before .before .before .args .table)) (c .before .before .before .before .before .before .before .before .args .at) (c .before .before .before .before .before .before .before .before .args .kind) (c .before .before .before .count-of .result) ≡ true
+bounded c = sym (c .before .before .numbers-right .ensures) ∙ not-false (c .before .before .numbers-right .result) (c .before .if2 .left)
 
 deepest-requires : tie.Need-deepest-requires
 deepest-requires c κs =
+    let s = c .before .before .before .before .before .before .before .before .before .before in
+    let m = c .before .before .before .before .before .count-of in
     rw (c .before .before .reference-step .ensures, c .before .reference-count .ensures)
-    (two-apart (c .before .before .before .before .before .before .before .head .given .0 .1 .0), references-inside (head-of (c .before .before .before .before .before .before)))
+    (two-apart (s .args .kind), references-inside (spread (now (s .args .depths))) (s .pre .1) (m .result) (m .ensures .0) (long (c .before .before .before .before .before)))
+
+-- past the references: what the rows referred to give
+deepest-of : (c : tie.After-deepest)
+    → deepestFrom (spread (now (c .before .before .before .before .before .before .before .before .before .before .before .args .depths))) 0 (referencesOf (now (c .before .before .before .before .before .before .before .before .before .before .before .args .table)) (c .before .before .before .before .before .before .before .before .before .before .before .args .at) (c .before .before .before .before .before .before .before .before .before .before .before .args .kind) (c .before .before .before .before .before .before .count-of .result)) ≡ c .deepest .result
+deepest-of c =
+    sym (rw (c .before .before .before .reference-step .ensures, c .before .before .reference-count .ensures, c .before .may-reserve .ensures) at (c .deepest .ensures))
 
 returns-3 : tie.Need-returns-3
-returns-3 c = reference-broken (spread (now (c .before .before .before .before .before .before .before .before .before .before .before .before .before .before .before .args .depths))) (head-of (c .before .before .before .before .before .before .before .before .before)) (deepest-of (c .before .before) ∙ c .enum-told2 .given .1)
+returns-3 c =
+    let s = c .before .before .before .before .before .before .before .before .before .before .before .before .before in
+    let m = c .before .before .before .before .before .before .before .before .count-of in
+    reference-broken (spread (now (s .args .depths))) (s .pre .1) (m .result) (m .ensures .0) (long (c .before .before .before .before .before .before .before .before)) (bounded (c .before .before .before .before .before))
+    (deepest-of (c .before .before) ∙ c .enum-told .given .1)
 
 returns-4 : tie.Need-returns-4
 returns-4 c =
-    branch-broken (spread (now (c .before .before .before .before .before .before .before .before .before .before .before .before .before .before .before .before .before .before .args .depths))) (head-of (c .before .before .before .before .before .before .before .before .before .before .before .before)) (c .before .before .before .below .given .0 .0) (deepest-of (c .before .before .before .before .before) ∙ c .before .before .before .below .given .1) (omega arith)
+    let s = c .before .before .before .before .before .before .before .before .before .before .before .before .before .before .before .before in
+    let m = c .before .before .before .before .before .before .before .before .before .before .before .count-of in
+    let x = c .before .before .before .below in
+    branch-broken (spread (now (s .args .depths))) (s .pre .1) (m .result) (m .ensures .0) (long (c .before .before .before .before .before .before .before .before .before .before .before)) (bounded (c .before .before .before .before .before .before .before .before))
+    (x .given .0 .0) (deepest-of (c .before .before .before .before .before) ∙ x .given .1) (omega arith)
 
 returns-5 : tie.Need-returns-5
 returns-5 c =
-    depth-broken (spread (now (c .before .before .before .before .before .before .before .before .before .before .before .before .before .before .before .before .before .before .before .args .depths))) (head-of (c .before .before .before .before .before .before .before .before .before .before .before .before .before)) (c .before .before .before .before .below .given .0 .0) (deepest-of (c .before .before .before .before .before .before) ∙ c .before .before .before .before .below .given .1) (omega arith)
+    let s = c .before .before .before .before .before .before .before .before .before .before .before .before .before .before .before .before .before in
+    let m = c .before .before .before .before .before .before .before .before .before .before .before .before .count-of in
+    let x = c .before .before .before .before .below in
+    depth-broken (spread (now (s .args .depths))) (s .pre .1) (m .result) (m .ensures .0) (long (c .before .before .before .before .before .before .before .before .before .before .before .before)) (bounded (c .before .before .before .before .before .before .before .before .before))
+    (x .given .0 .0) (deepest-of (c .before .before .before .before .before .before) ∙ x .given .1) (omega arith) (omega arith)
 
 returns-6 : tie.Need-returns-6
 returns-6 c =
-    row-sound (spread (now (c .before .before .before .before .before .before .before .before .before .before .before .before .before .before .before .before .before .before .before .args .depths))) (head-of (c .before .before .before .before .before .before .before .before .before .before .before .before .before)) (c .before .before .before .before .below .given .0 .0) (deepest-of (c .before .before .before .before .before .before) ∙ c .before .before .before .before .below .given .1)
-    (sym (flags-of (c .before .before .before .before .before .before .before .before .before .before .before)) ∙ not-false (c .before .before .before .before .before .before .before .before .before .before .before .flags-sound .result) (c .before .before .before .before .before .before .before .before .before .before .if1 .left)) (omega arith) (omega arith)
+    let s = c .before .before .before .before .before .before .before .before .before .before .before .before .before .before .before .before .before in
+    let m = c .before .before .before .before .before .before .before .before .before .before .before .before .count-of in
+    let x = c .before .before .before .before .below in
+    row-sound (spread (now (s .args .depths))) (s .pre .1) (m .result) (m .ensures .0) (long (c .before .before .before .before .before .before .before .before .before .before .before .before)) (bounded (c .before .before .before .before .before .before .before .before .before))
+    (x .given .0 .0) (deepest-of (c .before .before .before .before .before .before) ∙ x .given .1) (omega arith) (omega arith)
 
 pub kind-test-spec : {M : Type 1} → statement M
 kind-test-spec =
     tie.close
     (tie.spec
     (λ c κs. search needs)
-    (λ c. search needs)
-    (λ c. search needs)
     returns
-    (λ c. search needs)
-    (λ c κs. search needs)
-    flags-sound-requires
+    count-of-requires
+    numbers-right-requires
     returns-2
     (λ c κs. search needs)
     (λ c κs. search needs)
