@@ -7,10 +7,13 @@ use Rattle.item.proofs.CodeLaws.{item-laws}
 use Rattle.item.proofs.Ranges.{item-ranges}
 use Rattle.item.proofs.Widths.{item-widths}
 use Rattle.rules.proofs.Depths.{depths}
+use Rattle.table.proofs.Checks.{checks}
+use Rattle.table.proofs.Cases.{tables-given}
 use Rattle.encoding.proofs.Demand2.{demand2}
 use Rattle.items.proofs.Filled.{filled-up, zeros-after}
 use Rattle.encoding.proofs.Demand3.{demand3}
 use Rattle.encoding.proofs.Demand3Octets.{demand3-octets}
+use Rattle.encoding.proofs.UnderTable.{under-table}
 use Rattle.visits.proofs.Visits.{visits}
 use Rattle.visits.proofs.Reached.{reached}
 use Rattle.builtin.proofs.Tables.{built-in}
@@ -34,6 +37,9 @@ demands = record {
   numbers = six-numbers;
   filled = filled-up;
   zeros = zeros-after;
+  tables = checks;
+  underTables = under-table;
+  tableCases = tables-given;
   depths = depths;
   ranges = item-ranges;
   width = smallest-width;

@@ -17,10 +17,13 @@ use Rattle.item.specs.Laws.{ItemLaws}
 use Rattle.item.specs.Ranges.{ItemRanges}
 use Rattle.item.specs.Widths.{ItemWidths}
 use Rattle.rules.specs.Depths.{Depths}
+use Rattle.table.specs.Checks.{Checks}
+use Rattle.table.specs.Cases.{TablesGiven}
 use Rattle.encoding.specs.Demand2.{Demand2}
 use Rattle.items.specs.Filled.{FilledUp, ZerosAfter}
 use Rattle.encoding.specs.Demand3.{AreOctets, Demand3}
 use Rattle.encoding.specs.Demand3Octets.{Demand3Octets}
+use Rattle.encoding.specs.UnderTable.{UnderTable}
 use Rattle.visits.specs.Visits.{Visits}
 use Rattle.visits.specs.Reached.{Reached}
 use Rattle.builtin.specs.Built.{BuiltIn}
@@ -52,6 +55,11 @@ pub record Demands : Type 1 where
   -- the answer followed by zeros
   pub filled : FilledUp
   pub zeros : ZerosAfter
+  -- what the check finds in any octets, where a table breaks a rule which row and which part of it, and that reading and writing
+  -- under it answer the same; the corners, computed
+  pub tables : (t : List ℕ) → Checks t
+  pub underTables : (t : List ℕ) → UnderTable t
+  pub tableCases : TablesGiven
   -- what a row's depth is
   pub depths : (t : List ℕ) → Depths t
   -- the bits of each kind of item: which values, how many bits, and that one can be told from the other

@@ -4,3 +4,4 @@ pub mod Fitting
 pub mod Demand3
 pub mod Demand3Octets
 pub mod Demand2
+pub mod UnderTable

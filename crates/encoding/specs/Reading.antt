@@ -16,6 +16,6 @@ abbrev pub onPassed : Verdict → ReadOutcome → ReadOutcome
 onPassed passed x = x
 onPassed (broken refusal) x = refuse refusal
 
--- reading under a lent table: 1, 13, then the message
+-- reading under a lent table: its fault, 13, then the message
 unfoldable pub readOutcome : List ℕ → List ℕ → ℕ → ReadOutcome
 readOutcome t s room = onPassed (verdict t) (cond (leb (length s) mostOctets) (decode (asks t) s room) (refuse (refusalAt tooLong 0)))

@@ -12,6 +12,6 @@ abbrev pub onPassed : Verdict → WriteOutcome → WriteOutcome
 onPassed passed x = x
 onPassed (broken refusal) x = unwritten refusal
 
--- writing under a lent table: 1, then the list
+-- writing under a lent table: its fault, then the list
 unfoldable pub writeOutcome : List ℕ → List ℤ → ℕ → WriteOutcome
 writeOutcome t vs cap = onPassed (verdict t) (encode (asks t) vs cap)

@@ -5,3 +5,4 @@ pub mod Written
 pub mod Filled
 pub mod Walks
 pub mod Spells
+pub mod Numbers
