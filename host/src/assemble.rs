@@ -96,6 +96,13 @@ impl Assembler {
         at
     }
 
+    /// Octets as they are, right or wrong.
+    pub fn raw(&mut self, octets: &[u8]) -> Offset {
+        let at = self.octets.len() as Offset;
+        self.octets.extend(octets);
+        at
+    }
+
     fn row(&mut self, length: usize, kind: u16) -> Offset {
         let at = self.octets.len() as Offset;
         self.put(length as u16);

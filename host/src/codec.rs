@@ -4,43 +4,79 @@
 //! paragraph): values are eight octets each, little-endian, two's complement, and octets after the
 //! last whole eight are ignored in a list and zeroed in an output.
 
-/// A refusal: its number in document 01, and its place.
+/// A refusal: its number in document 01, as ticket 1 of document 02 splits it, and its place.
 #[derive(Clone, Copy, Debug, PartialEq, Eq)]
 pub struct Refusal {
     pub number: u32,
-    /// In bits of the message on reading, an index into the list on writing.
+    /// In octets of the table for 20 to 26: the first octet of the row at fault. Else in bits of
+    /// the message on reading, and an index into the list on writing. 0 for 1 and 13.
     pub place: u64,
 }
 
+macro_rules! refusals {
+    ($($(#[$about:meta])* $name:ident = $number:literal, $meaning:literal;)*) => {
+        impl Refusal {
+            $(
+                #[doc = concat!("Refused: ", $meaning, ".")]
+                $(#[$about])*
+                pub const $name: u32 = $number;
+            )*
+
+            /// Every number, in order.
+            pub const ALL: &[u32] = &[$($number),*];
+
+            /// What a number means, in one sentence.
+            pub const fn meaning(number: u32) -> &'static str {
+                match number {
+                    $(Refusal::$name => $meaning,)*
+                    _ => "no refusal has this number",
+                }
+            }
+
+            /// The name that a number has here, and in the header for C.
+            pub const fn name(number: u32) -> Option<&'static str> {
+                match number {
+                    $(Refusal::$name => Some(stringify!($name)),)*
+                    _ => None,
+                }
+            }
+        }
+    };
+}
+
+refusals! {
+    TABLE_SIZE = 1, "the table has fewer than 4 octets, or more than 4,096";
+    SHORT = 2, "the message ends inside an item, or is empty";
+    SPAN = 3, "a number is above its span";
+    BRANCH = 4, "an index is too high, or its branch is reserved";
+    LENGTH_FORM = 5, "a length has a bad form";
+    /// For an opened message: more than 32 bits are asked for.
+    ABOVE_MOST = 6, "a count or length is above its limit";
+    VARIABLE_FORM = 7, "a variable number starts with 1111";
+    NO_ROOM = 8, "there is no place for the next value, or for its bits";
+    LEFT = 9, "the padding is not zero, or octets are left";
+    VERSION = 10, "the version of the LM is not 3";
+    SUBTYPE = 11, "the subtype of the LM is not 0, 1 or 2";
+    VALUE = 12, "a value is missing, outside its row, or left over";
+    MESSAGE_SIZE = 13, "the message has more than 65,535 octets";
+    ROW_END = 20, "fewer than 4 octets are left for the row, or its length runs past the table's end";
+    ROW_KIND = 21, "the row's kind is unknown";
+    ROW_LENGTH = 22, "the row's length is not the one that its kind asks for";
+    ROW_NUMBER = 23, "a count, limit, m or flag of the row is out of bounds";
+    ROW_REFERENCE = 24, "a reference of the row is not the first octet of an earlier row";
+    ROW_BRANCH = 25, "every branch of the choice is reserved";
+    ROW_DEPTH = 26, "the row is deeper than 32";
+}
+
 impl Refusal {
-    /// The table breaks a rule.
-    pub const TABLE: u32 = 1;
-    /// The message ends inside an item, or is empty.
-    pub const SHORT: u32 = 2;
-    /// A number is above its span.
-    pub const SPAN: u32 = 3;
-    /// An index is m or more, or its branch is reserved.
-    pub const BRANCH: u32 = 4;
-    /// A length has a bad form.
-    pub const LENGTH_FORM: u32 = 5;
-    /// A count or length is above "most"; for an opened message, more than 32 bits are asked for.
-    pub const ABOVE_MOST: u32 = 6;
-    /// A variable number starts with 1111.
-    pub const VARIABLE_FORM: u32 = 7;
-    /// There is no place for the next value, or for its bits.
-    pub const NO_ROOM: u32 = 8;
-    /// The padding is not zero, or octets are left.
-    pub const LEFT: u32 = 9;
-    /// The version of an LM is not 3.
-    pub const VERSION: u32 = 10;
-    /// The subtype of an LM is not 0, 1 or 2.
-    pub const SUBTYPE: u32 = 11;
-    /// A value to write is missing, outside its row, or left over.
-    pub const VALUE: u32 = 12;
-    /// The message has more than 65,535 octets.
-    pub const MESSAGE_SIZE: u32 = 13;
-    /// The highest number that document 01 gives.
-    pub const HIGHEST: u32 = 13;
+    /// The highest number. Not every number below it is a refusal's.
+    pub const HIGHEST: u32 = Refusal::ALL[Refusal::ALL.len() - 1];
+
+    /// Whether the number tells what is wrong with a table: every call under the table gives it.
+    pub const fn is_of_table(number: u32) -> bool {
+        number == Refusal::TABLE_SIZE
+            || (number >= Refusal::ROW_END && number <= Refusal::ROW_DEPTH)
+    }
 
     pub fn new(number: u32, place: usize) -> Refusal {
         Refusal {
@@ -61,10 +97,8 @@ pub enum Answer {
         /// Written: the count of octets.
         octets: u64,
     },
-    Refused {
-        number: u32,
-        place: u64,
-    },
+    /// As in `Refusal`.
+    Refused { number: u32, place: u64 },
 }
 
 impl Answer {

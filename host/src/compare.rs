@@ -1,6 +1,8 @@
 //! Two codecs on many drawn cases: the answers and the whole lent slices have to be equal, to the
 //! last octet. Each case is drawn from the seed and its number alone.
 
+use std::fmt;
+
 use crate::case::{Case, Outcome, Table};
 use crate::codec::{value_octets, Call, Codec, Refusal};
 use crate::random::{
@@ -19,8 +21,45 @@ pub struct Stats {
     pub calls: [u64; Call::ALL.len()],
     /// Checks, readings, writings and user data calls that were accepted.
     pub accepted: u64,
-    /// The same, refused, by number.
+    /// The same, refused, by number; 0 at what is no refusal's number.
     pub refused: [u64; Refusal::HIGHEST as usize + 1],
+}
+
+impl Stats {
+    /// How often each refusal came up, in the order of their numbers.
+    pub fn refusals(&self) -> impl Iterator<Item = (u32, u64)> + '_ {
+        let count = |&number: &u32| (number, self.refused[number as usize]);
+        Refusal::ALL.iter().map(count)
+    }
+
+    /// Fails where a refusal came up too rarely: one that tells what is wrong with a table in less
+    /// than one of 500 cases, any other in none.
+    pub fn assert_refusals_are_met(&self) {
+        for (number, count) in self.refusals() {
+            let least = if Refusal::is_of_table(number) {
+                self.cases / 500
+            } else {
+                1
+            };
+            assert!(count >= least, "refusal {number} is met {count} times");
+        }
+    }
+}
+
+/// The calls in one line, then a line for each outcome.
+impl fmt::Display for Stats {
+    fn fmt(&self, text: &mut fmt::Formatter) -> fmt::Result {
+        write!(text, "{} cases", self.cases)?;
+        for (call, count) in Call::ALL.iter().zip(self.calls) {
+            write!(text, ", {call:?} {count}")?;
+        }
+        write!(text, "\naccepted   {:>8}", self.accepted)?;
+        for (number, count) in self.refusals() {
+            let meaning = Refusal::meaning(number);
+            write!(text, "\nrefused {number:>2} {count:>8}  {meaning}")?;
+        }
+        Ok(())
+    }
 }
 
 /// Compares two codecs on so many cases, over the calls that both offer. The error is a report of
@@ -205,7 +244,7 @@ pub fn draw(random: &mut Random, calls: &[Call]) -> Case {
     }
 }
 
-/// Any table, passing more often than not.
+/// Any table; about half of them pass.
 fn some_table(random: &mut Random) -> Vec<u8> {
     if random.one_in(3) {
         passing_table(random)
@@ -239,8 +278,13 @@ fn value_slice(random: &mut Random, needed: usize) -> usize {
 
 fn draw_read(random: &mut Random) -> Case {
     let (table, drawn) = some_list(random);
+    let message = if drawn.items.is_empty() && random.one_in(32) {
+        large_message(random) // under a table that is refused before
+    } else {
+        some_message(random, &table, &drawn)
+    };
     Case::Read {
-        message: some_message(random, &table, &drawn),
+        message,
         value_octets: value_slice(random, drawn.items.len()),
         table: Table::Lent(table),
     }

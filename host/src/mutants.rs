@@ -35,6 +35,44 @@ faults! {
     ReferenceInsideRow,
     /// Check: a row of depth 33 passes.
     DepthOneMore,
+    /// Check: a table under 4 octets is told as a row that is cut (20 for 1).
+    SizeAsRow,
+    /// Check: the kind is tested before the row's end (21 for 20).
+    KindBeforeEnd,
+    /// Check: a length below 4 is told as the row's end (20 for 22).
+    ShortLengthAsEnd,
+    /// Check: a length below 4 is told before an unknown kind (22 for 21).
+    LengthBeforeKind,
+    /// Check: the length that m asks for is worked out in 16 bits (23 for 22).
+    LengthWraps,
+    /// Check: an m out of bounds is told as a wrong length (22 for 23).
+    BoundsInLength,
+    /// Check: a count, a limit or m is tested before the row's length (23 for 22).
+    NumberBeforeLength,
+    /// Check: the reference of a run is tested before its count (24 for 23).
+    ReferenceBeforeCount,
+    /// Check: the references of a record are tested before its flags (24 for 23).
+    ReferenceBeforeFlag,
+    /// Check: the fields of a record are tested in order, each for its flag and its reference.
+    FlagBesideReference,
+    /// Check: a reference to a row of depth 32 is told before a wrong one behind it (26 for 24).
+    DepthBeforeReference,
+    /// Check: a choice of reserved branches is told as a wrong reference (24 for 25).
+    NoBranchAsReference,
+    /// Check: the place is 0 for every row.
+    RowPlaceZero,
+    /// Check: the place is the next row's.
+    NextRowPlace,
+    /// Check: the last row is told whose numbers or references break a rule, not the first.
+    LastBrokenRow,
+    /// Reading and writing: a table that breaks a rule is still told as 1 at 0.
+    BrokenTableAsOne,
+    /// Reading and writing: the place of a row is told in bits.
+    RowPlaceInBits,
+    /// Reading: a message above 65,535 octets is told before a table that breaks a rule.
+    LongMessageBeforeTable,
+    /// Reading: an empty message is told before a table that breaks a rule.
+    EmptyMessageBeforeTable,
     /// Number: its bits are too few for a span that is a power of two.
     NumberWidth,
     /// Choice: its index takes a bit too many where m is a power of two.

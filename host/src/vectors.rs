@@ -3,21 +3,21 @@
 //! A line holds one call and its outcome, in cells separated by one space; a line that starts with
 //! `#` is a note. Octets are `-` if there are none, else hex segments joined by `+`, where `XX*N` is
 //! the octet XX N times. Values are `-` if there are none, else decimal numbers joined by `,`,
-//! where `V*N` is V N times. The second cell, except in `element` lines, is `-`: the line rests on
-//! document 01 alone.
+//! where `V*N` is V N times.
 //!
 //! | Line | Outcome |
 //! |---|---|
-//! | `check - TABLE` | `ok` or a refusal |
-//! | `read - TABLE MESSAGE ROOM` | `ok COUNT BITS VALUES` or a refusal |
-//! | `write - TABLE VALUES LENGTH` | `ok COUNT OCTETS` or a refusal |
-//! | `userdata - MESSAGE` | `ok START LENGTH` or a refusal |
+//! | `check BASIS TABLE` | `ok` or a refusal |
+//! | `read BASIS TABLE MESSAGE ROOM` | `ok COUNT BITS VALUES` or a refusal |
+//! | `write BASIS TABLE VALUES LENGTH` | `ok COUNT OCTETS` or a refusal |
+//! | `userdata BASIS MESSAGE` | `ok START LENGTH` or a refusal |
 //! | `element ID HOME` | `here`, `elsewhere` or `unknown` |
-//! | `take - MESSAGE K,K,..` | `ok` or `no:13:0:0`, then `ok:NUMBER:PLACE` or `no:NUMBER:PLACE:0` for each |
-//! | `bench - STREAM` | the text printed, with a bar for each line end |
+//! | `take BASIS MESSAGE K,K,..` | `ok` or `no:13:0:0`, then `ok:NUMBER:PLACE` or `no:NUMBER:PLACE:0` for each |
+//! | `bench BASIS STREAM` | the text printed, with a bar for each line end |
 //!
-//! TABLE is octets, or `LM` for the built-in table by name. A refusal is `no NUMBER PLACE 0`; the
-//! last cell is kept for a later count of missing bits.
+//! BASIS is `-` where document 01 alone decides, and `1` where ticket 1 of document 02 may: a line
+//! whose refusal is 20 or above has `1`. TABLE is octets, or `LM` for the built-in table by name. A
+//! refusal is `no NUMBER PLACE 0`; the last cell is kept for a later count of missing bits.
 //!
 //! A value slice is lent with 0 to 7 octets after its values, by the line's number, which a codec
 //! has to ignore or zero.
@@ -155,9 +155,14 @@ impl<'a> Cells<'a> {
 fn parse_line(words: &str, tail: usize) -> Result<(Case, Outcome), String> {
     let mut cells = Cells(words);
     let name = cells.next()?;
-    if name != "element" && cells.next()? != "-" {
-        return Err("the line does not rest on document 01 alone".to_string());
-    }
+    let ticket_1 = match name {
+        "element" => false,
+        _ => match cells.next()? {
+            "-" => false,
+            "1" => true,
+            cell => return Err(format!("{cell} is neither document 01 nor ticket 1")),
+        },
+    };
     let parsed = match name {
         "check" => {
             let table = cells.octets()?;
@@ -258,6 +263,10 @@ fn parse_line(words: &str, tail: usize) -> Result<(Case, Outcome), String> {
         name => return Err(format!("{name} is no call")),
     };
     cells.end()?;
+    let refusal = parsed.1.refusal();
+    if refusal.is_some_and(|refusal| refusal.number >= Refusal::ROW_END) && !ticket_1 {
+        return Err("document 01 has no such refusal".to_string());
+    }
     Ok(parsed)
 }
 
@@ -397,13 +406,13 @@ pub fn case_text(case: &Case) -> String {
         Table::Lm => "LM".to_string(),
     };
     match case {
-        Case::Check { table } => format!("check - {}", octets_cell(table)),
+        Case::Check { table } => format!("check 1 {}", octets_cell(table)),
         Case::Read {
             table,
             message,
             value_octets,
         } => format!(
-            "read - {} {} {} (value slice of {value_octets} octets)",
+            "read 1 {} {} {} (value slice of {value_octets} octets)",
             table_cell(table),
             octets_cell(message),
             value_octets / 8,
@@ -413,17 +422,17 @@ pub fn case_text(case: &Case) -> String {
             values,
             output,
         } => format!(
-            "write - {} {} {output}",
+            "write 1 {} {} {output}",
             table_cell(table),
             values_cell(values)
         ),
-        Case::UserData { message } => format!("userdata - {}", octets_cell(message)),
+        Case::UserData { message } => format!("userdata 1 {}", octets_cell(message)),
         Case::Element { id, home } => format!("element {id} {home}"),
         Case::Take { message, widths } => {
             let widths: Vec<String> = widths.iter().map(u64::to_string).collect();
-            format!("take - {} {}", octets_cell(message), widths.join(","))
+            format!("take 1 {} {}", octets_cell(message), widths.join(","))
         }
-        Case::Bench { stream } => format!("bench - {}", octets_cell(stream)),
+        Case::Bench { stream } => format!("bench 1 {}", octets_cell(stream)),
     }
 }
 
@@ -474,8 +483,10 @@ mod tests {
     fn lines_that_are_not_understood_are_errors() {
         for line in [
             "check - 04000200",
-            "check 1 04000200 ok",
+            "check 2 04000200 ok",
+            "check 1,2 04000200 ok",
             "check - 04000200 ok 1",
+            "check - 00000200 no 22 0 0",
             "check - 04000200 no 1 0",
             "check - 04000200 no 1 0 8",
             "read - LM 03 1 ok 2 0 1,2",

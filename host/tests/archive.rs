@@ -5,8 +5,9 @@ use std::time::Instant;
 
 use teyolxan_host::api;
 use teyolxan_host::archive::{Archive, ARCHIVE, CALLS};
+use teyolxan_host::case::Case;
 use teyolxan_host::codec::{Answer, Bits, Codec, Refusal};
-use teyolxan_host::compare::compare;
+use teyolxan_host::compare::{compare, compare_one, Stats};
 use teyolxan_host::guarded::Guarded;
 use teyolxan_host::reference::REFERENCE;
 use teyolxan_host::settings;
@@ -14,6 +15,7 @@ use teyolxan_host::vectors::{parse, run, Vector};
 
 const BASE: &str = include_str!("../vectors/base.txt");
 const EDGES: &str = include_str!("../vectors/edges.txt");
+const STAGE01: &str = include_str!("../vectors/stage01.txt");
 
 /// Cases for the libraries against the reference; more where the build is optimised.
 const CASES: u64 = if cfg!(debug_assertions) {
@@ -52,7 +54,15 @@ fn base() {
 fn edges() {
     assert_eq!(
         passes(&ARCHIVE, &vectors(EDGES)),
-        [58, 61, 41, 15, 9, 3, 6, 2]
+        [200, 85, 57, 15, 9, 3, 6, 2]
+    );
+}
+
+#[test]
+fn stage01() {
+    assert_eq!(
+        passes(&ARCHIVE, &vectors(STAGE01)),
+        [835, 264, 106, 77, 36, 0, 16, 16]
     );
 }
 
@@ -67,7 +77,7 @@ fn the_libraries_equal_the_reference() {
     let stats =
         compare(&REFERENCE, &ARCHIVE, seed, cases).unwrap_or_else(|report| panic!("{report}"));
     let seconds = start.elapsed().as_secs_f64();
-    println!("{stats:?}");
+    println!("{stats}");
     println!(
         "{cases} cases in {seconds:.1} s, {:.0} cases a second",
         cases as f64 / seconds
@@ -79,14 +89,48 @@ fn the_libraries_equal_the_reference() {
     for call in CALLS {
         assert!(stats.calls[call as usize] > 0, "{call:?} is not drawn");
     }
-    for (number, &count) in stats.refused.iter().enumerate().skip(1) {
-        assert!(count > 0, "refusal {number} is not met");
+    stats.assert_refusals_are_met();
+}
+
+/// Behind a variable number, every row of these numbers, each of them right for some kind or nearly,
+/// and every beginning of it.
+#[test]
+fn rows_of_any_numbers_are_told_alike() {
+    const NUMBERS: [&[u16]; 5] = [
+        &[0, 3, 4, 5, 6, 8, 10, 12, 14, 0xFFFF], // a length
+        &[0, 1, 2, 3, 4, 5, 6, 7, 8, 261],       // a kind
+        &[0, 1, 2, 3, 33, 1_025, 16_384, 16_385, 0x8002, 0xFFFF],
+        &[0, 1, 2, 4, 0xFFFF],
+        &[0, 1, 2, 4, 0xFFFF],
+    ];
+    let mut stats = Stats::default();
+    for row in 0..NUMBERS.iter().map(|list| list.len()).product() {
+        let mut rest: usize = row;
+        let [length, kind, count, left, right] = NUMBERS.map(|list| {
+            let number = list[rest % list.len()];
+            rest /= list.len();
+            number
+        });
+        let numbers = [4, 2, length, kind, count, left, right, right, left];
+        let octets = numbers.map(u16::to_le_bytes).concat();
+        for size in 4..=octets.len() {
+            let table = octets[..size].to_vec();
+            compare_one(&REFERENCE, &ARCHIVE, &Case::Check { table }, &mut stats)
+                .unwrap_or_else(|report| panic!("{report}"));
+        }
+    }
+    println!("{stats}");
+    for number in Refusal::ROW_END..=Refusal::ROW_BRANCH {
+        assert!(
+            stats.refused[number as usize] > 0,
+            "refusal {number} is not met"
+        );
     }
 }
 
 #[test]
 fn slices_stand_anywhere_and_nothing_beside_them_is_touched() {
-    let vectors = vectors(&[BASE, EDGES].concat());
+    let vectors = vectors(&[BASE, EDGES, STAGE01].concat());
     let archive = Archive(Guarded::new());
     for _ in 0..8 {
         passes(&archive, &vectors);

@@ -11,6 +11,7 @@ use teyolxan_host::vectors::{parse, run};
 
 const BASE: &str = include_str!("../vectors/base.txt");
 const EDGES: &str = include_str!("../vectors/edges.txt");
+const STAGE01: &str = include_str!("../vectors/stage01.txt");
 
 fn root() -> PathBuf {
     Path::new(env!("CARGO_MANIFEST_DIR"))
@@ -59,7 +60,7 @@ impl Codec for Program {
 
 #[test]
 fn vectors() {
-    for (text, count) in [(BASE, 55), (EDGES, 12)] {
+    for (text, count) in [(BASE, 55), (EDGES, 12), (STAGE01, 10)] {
         let report = run(&Program, &parse(text).expect("the file is well formed"));
         assert!(
             report.differences.is_empty(),

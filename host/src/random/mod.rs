@@ -4,6 +4,7 @@
 //! Lists are drawn together with the bits of each value, so that a message can be put together
 //! without a codec, and spoilt at one item. Most of what is drawn is small.
 
+mod broken;
 mod large;
 mod lists;
 mod messages;

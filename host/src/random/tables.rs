@@ -1,12 +1,13 @@
 //! Tables: ones that pass the check, and ones that nearly do.
 
+use super::broken::table_with_broken_rows;
 use super::Random;
 use crate::assemble::{kind, Assembler, Offset, RESERVED};
-use crate::reference::{lm_table, LENGTH_MOST, TABLE_MOST};
+use crate::reference::{lm_table, LENGTH_MOST, TABLE_LEAST, TABLE_MOST};
 
 /// A table in the making, with what later rows have to know of each row.
-struct Rows {
-    table: Assembler,
+pub(super) struct Rows {
+    pub(super) table: Assembler,
     rows: Vec<Known>,
 }
 
@@ -44,7 +45,7 @@ pub fn passing_table(random: &mut Random) -> Vec<u8> {
     table.table.finish()
 }
 
-/// A table that breaks a rule in one place, or just about passes.
+/// A table that breaks a rule in one place, or in two, or just about passes.
 pub fn nearly_passing_table(random: &mut Random) -> Vec<u8> {
     match random.below(64) {
         0..=3 => {
@@ -64,6 +65,8 @@ pub fn nearly_passing_table(random: &mut Random) -> Vec<u8> {
             return random.octets(size);
         }
         7 => return reference_inside_row(random),
+        8..=9 => return table_of_wrong_size(random),
+        10..=25 => return table_with_broken_rows(random),
         _ => (),
     }
     let mut table = passing_table(random);
@@ -91,7 +94,7 @@ pub fn nearly_passing_table(random: &mut Random) -> Vec<u8> {
 }
 
 impl Rows {
-    fn new() -> Rows {
+    pub(super) fn new() -> Rows {
         Rows {
             table: Assembler::new(),
             rows: Vec::new(),
@@ -99,7 +102,7 @@ impl Rows {
     }
 
     /// Adds a row of a drawn kind.
-    fn add(&mut self, random: &mut Random, depth_most: u32) {
+    pub(super) fn add(&mut self, random: &mut Random, depth_most: u32) {
         let kind = match random.below(16) {
             0..=2 => kind::NUMBER,
             3 => kind::VARIABLE,
@@ -210,6 +213,32 @@ impl Rows {
         let any = turned.clone().find(|row| row.depth < depth_most);
         *usual.or(any).unwrap_or(&newest)
     }
+
+    /// Any row that a new row may refer to, if there is one.
+    pub(super) fn any_earlier(&self, random: &mut Random) -> Option<Offset> {
+        (!self.rows.is_empty()).then(|| self.earlier(random, 32).offset)
+    }
+
+    /// Adds rows that each refer to the one before; the last has this depth.
+    pub(super) fn chain(&mut self, random: &mut Random, depth: u32) -> Offset {
+        let (low, span) = some_number(random);
+        let mut offset = self.table.number(low, span);
+        for _ in 1..depth {
+            offset = match random.below(4) {
+                0 => self.table.fixed_run(1, offset),
+                1 => {
+                    let optional = random.one_in(4);
+                    self.table.record(&[(offset, optional)])
+                }
+                2 => {
+                    let branches = [None, Some(offset)];
+                    self.table.choice(&branches)
+                }
+                _ => self.table.counted_run(2, offset),
+            };
+        }
+        offset
+    }
 }
 
 /// Rows that each refer to the one before, to a depth of about 32.
@@ -218,26 +247,28 @@ fn chain(random: &mut Random, depth: u32) -> Vec<u8> {
     if random.one_in(2) {
         rows.add(random, 1);
     }
-    let (low, span) = some_number(random);
-    let mut offset = rows.table.number(low, span);
-    for _ in 1..depth {
-        offset = match random.below(4) {
-            0 => rows.table.fixed_run(1, offset),
-            1 => {
-                let optional = random.one_in(4);
-                rows.table.record(&[(offset, optional)])
-            }
-            2 => {
-                let branches = [None, Some(offset)];
-                rows.table.choice(&branches)
-            }
-            _ => rows.table.counted_run(2, offset),
-        };
-    }
+    rows.chain(random, depth);
     if random.one_in(4) {
         rows.table.variable(); // the deep row is then not used
     }
     rows.table.finish()
+}
+
+/// A table with too few octets or too many, whatever else is right or wrong with it.
+fn table_of_wrong_size(random: &mut Random) -> Vec<u8> {
+    match random.below(16) {
+        0 => full_table(random, TABLE_MOST + 2),
+        1..=3 => {
+            let mut table = passing_table(random);
+            table.resize(TABLE_MOST + 1 + random.index(3), random.word() as u8);
+            table
+        }
+        _ => {
+            let mut table = passing_table(random);
+            table.truncate(random.index(TABLE_LEAST));
+            table
+        }
+    }
 }
 
 /// A table of this even size, of many small rows.

@@ -358,11 +358,19 @@ impl<const F: u8> Engine<F> {
         message: &[u8],
         values: &mut V,
     ) -> Answer {
-        let Some(root) = Self::root_of(table) else {
-            values.clear_from(0);
-            return Refusal::new(Refusal::TABLE, 0).into();
+        let before_table = planted::<F>(Fault::LongMessageBeforeTable) && !message.is_empty()
+            || planted::<F>(Fault::EmptyMessageBeforeTable) && message.is_empty();
+        let before = match before_table {
+            true => Self::message_tests(message),
+            false => Ok(()),
         };
-        Self::read_passed(table, root, message, values)
+        match before.and_then(|()| Self::root_for_message(table)) {
+            Ok(root) => Self::read_passed(table, root, message, values),
+            Err(refusal) => {
+                values.clear_from(0);
+                refusal.into()
+            }
+        }
     }
 
     pub(super) fn read_lm_values<V: ValueSlice + ?Sized>(message: &[u8], values: &mut V) -> Answer {

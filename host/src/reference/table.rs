@@ -1,4 +1,7 @@
-//! The rows of a table, and the check (document 01, "Row layout").
+//! The rows of a table (document 01, "Row layout"), and the check, which tells the first row that
+//! breaks a rule and its first part that does (document 02, ticket 1).
+
+use std::ops::RangeInclusive;
 
 use super::{planted, Engine, Reference, DEPTH_MOST, LENGTH_MOST, TABLE_LEAST, TABLE_MOST};
 use crate::assemble::{kind, RESERVED};
@@ -96,121 +99,302 @@ pub fn branch_row(branch: &[u8; 2]) -> Option<usize> {
 
 /// The offset of the root, if the table obeys the rules.
 pub fn root_of(table: &[u8]) -> Option<usize> {
-    Reference::root_of(table)
+    Reference::find_root(table).ok()
 }
 
-/// The length of the row that these octets start with, if it lies within them and is of a known
-/// kind and of that kind's length.
-#[inline]
-fn row_length<const F: u8>(rest: &[u8]) -> Option<usize> {
-    if rest.len() < 4 {
-        return None;
+/// The depths of the rows so far, by half their offsets: row lengths are even, so rows start at even
+/// offsets. 0 where no row starts.
+struct Depths([u8; TABLE_MOST / 2]);
+
+impl Depths {
+    /// The depth of the row that a reference leads to, or 0 where no earlier row starts.
+    #[inline]
+    fn at(&self, reference: u16) -> u8 {
+        // An odd reference turns into an index that is out of range.
+        let index = usize::from(reference.rotate_right(1));
+        self.0.get(index).copied().unwrap_or(0)
     }
-    let length = usize::from(word(rest, 0));
-    let row = rest.get(..length)?;
-    let kind = if planted::<F>(Fault::KindLowOctet) {
-        u16::from(rest[2])
+
+    #[inline]
+    fn set(&mut self, offset: usize, depth: u8) {
+        self.0[offset / 2] = depth;
+    }
+}
+
+/// The depths that the references of a row lead to.
+struct Referred {
+    deepest: u8,
+    /// Whether each leads to an earlier row.
+    known: bool,
+}
+
+impl Referred {
+    #[inline]
+    fn to_none() -> Referred {
+        Referred {
+            deepest: 0,
+            known: true,
+        }
+    }
+
+    #[inline]
+    fn add(&mut self, depth: u8) {
+        self.deepest = self.deepest.max(depth);
+        self.known &= depth > 0;
+    }
+
+    /// The deepest of them.
+    #[inline]
+    fn deepest(self) -> Result<u8, Part> {
+        hold(self.known, Refusal::ROW_REFERENCE)?;
+        Ok(self.deepest)
+    }
+}
+
+/// The part of a row that is wrong, as the refusal's number.
+type Part = u32;
+
+#[inline]
+fn hold(right: bool, part: Part) -> Result<(), Part> {
+    if right {
+        Ok(())
     } else {
-        word(rest, 2)
-    };
-    let asked = match kind {
-        kind::NUMBER => 12,
-        kind::VARIABLE => 4,
-        kind::FIXED_RUN | kind::COUNTED_RUN => 8,
-        kind::RECORD if row.len() >= 6 => 6 + 4 * usize::from(word(row, 4)),
-        kind::CHOICE if row.len() >= 6 => 6 + 2 * usize::from(word(row, 4)),
-        kind::OCTETS => 6,
-        _ => return None,
-    };
-    (length == asked).then_some(length)
+        Err(part)
+    }
+}
+
+/// A row of the length that its kind asks for.
+#[inline]
+fn of_length<const N: usize>(row: &[u8]) -> Result<&[u8; N], Part> {
+    row.try_into().map_err(|_| Refusal::ROW_LENGTH)
+}
+
+/// Holds a count, a limit or m to its bounds.
+#[inline]
+fn within(number: u16, bounds: RangeInclusive<u16>) -> Result<(), Part> {
+    hold(bounds.contains(&number), Refusal::ROW_NUMBER)
+}
+
+/// The bounds of a count, a limit or m, by the row's kind.
+mod bounds {
+    use super::{RangeInclusive, LENGTH_MOST};
+
+    pub const FIXED_RUN: RangeInclusive<u16> = 1..=1_024;
+    pub const COUNTED_RUN: RangeInclusive<u16> = 1..=LENGTH_MOST as u16;
+    pub const RECORD: RangeInclusive<u16> = 1..=32;
+    pub const CHOICE: RangeInclusive<u16> = 2..=128;
+    pub const OCTETS: RangeInclusive<u16> = 0..=LENGTH_MOST as u16;
 }
 
 impl<const F: u8> Engine<F> {
     pub(super) fn check_table(table: &[u8]) -> Answer {
-        match Self::root_of(table) {
-            Some(_) => Answer::PASSED,
-            None => Refusal::new(Refusal::TABLE, 0).into(),
+        match Self::find_root(table) {
+            Ok(_) => Answer::PASSED,
+            Err(refusal) => refusal.into(),
         }
     }
 
-    /// One pass over the rows in order: the depth of a row is known before any row can refer to it.
-    pub(super) fn root_of(table: &[u8]) -> Option<usize> {
-        if table.len() < TABLE_LEAST || table.len() > TABLE_MOST {
-            return None;
+    /// The root of a table that a message is read or written under.
+    #[inline]
+    pub(super) fn root_for_message(table: &[u8]) -> Result<usize, Refusal> {
+        let root = Self::find_root(table);
+        if planted::<F>(Fault::BrokenTableAsOne) {
+            return root.map_err(|_| Refusal::new(Refusal::TABLE_SIZE, 0));
         }
-        // Row lengths are even, so rows start at even offsets; 0 where no row starts.
-        let mut depths = [0u8; TABLE_MOST / 2];
+        if planted::<F>(Fault::RowPlaceInBits) {
+            return root.map_err(|Refusal { number, place }| Refusal {
+                number,
+                place: 8 * place,
+            });
+        }
+        root
+    }
+
+    /// The offset of the root, or the first row that breaks a rule. One pass over the rows in order:
+    /// the depth of a row is known before any row can refer to it.
+    fn find_root(table: &[u8]) -> Result<usize, Refusal> {
+        let small = table.len() < TABLE_LEAST && !planted::<F>(Fault::SizeAsRow);
+        if small || table.len() > TABLE_MOST {
+            return Err(Refusal::new(Refusal::TABLE_SIZE, 0));
+        }
+        let mut depths = Depths([0; TABLE_MOST / 2]);
         let mut at = 0;
+        let mut broken = None;
         loop {
-            let length = row_length::<F>(&table[at..])?;
-            let depth_of = |reference: usize| -> Option<u8> {
-                let depth = *depths.get(reference / 2)?;
-                (reference.is_multiple_of(2) && depth > 0).then_some(depth)
-            };
-            let deepest = match Row::at(table, at) {
-                Row::Number { .. } | Row::Variable => 0,
-                Row::FixedRun { count, item } => {
-                    if !(1..=1_024).contains(&count) {
-                        return None;
+            let rest = &table[at..];
+            let (length, depth) = match Self::test_row(rest, &depths) {
+                Ok(row) => row,
+                Err(part) => {
+                    let refusal = Refusal::new(part, Self::place_told(at, rest));
+                    if !planted::<F>(Fault::LastBrokenRow) || part < Refusal::ROW_NUMBER {
+                        return Err(refusal);
                     }
-                    depth_of(item)?
-                }
-                Row::CountedRun { most, item } => {
-                    if !(1..=LENGTH_MOST).contains(&most) {
-                        return None;
-                    }
-                    depth_of(item)?
-                }
-                Row::Record { fields } => {
-                    if !(1..=32).contains(&fields.len()) {
-                        return None;
-                    }
-                    let mut deepest = 0;
-                    for field in fields {
-                        if word(field, 2) > 1 {
-                            return None;
-                        }
-                        deepest = deepest.max(depth_of(field_row(field))?);
-                    }
-                    deepest
-                }
-                Row::Choice { branches } => {
-                    if !(2..=128).contains(&branches.len()) {
-                        return None;
-                    }
-                    let mut deepest = 0;
-                    for branch in branches {
-                        if let Some(row) = branch_row(branch) {
-                            deepest = deepest.max(depth_of(row)?);
-                        }
-                    }
-                    if deepest == 0 {
-                        return None; // no branch that isn't reserved
-                    }
-                    deepest
-                }
-                Row::Octets { most } => {
-                    if most > LENGTH_MOST {
-                        return None;
-                    }
-                    0
+                    broken = Some(refusal);
+                    (usize::from(word(rest, 0)), 1)
                 }
             };
-            let depth_most = DEPTH_MOST + u8::from(planted::<F>(Fault::DepthOneMore));
-            if deepest >= depth_most {
-                return None;
-            }
-            depths[at / 2] = deepest + 1;
-            if planted::<F>(Fault::ReferenceInsideRow)
-                && table[at..].get(4..8) == Some(&[4, 0, 2, 0])
-                && length == 12
+            depths.set(at, depth);
+            if planted::<F>(Fault::ReferenceInsideRow) && length == 12 && rest[4..8] == [4, 0, 2, 0]
             {
-                depths[at / 2 + 2] = 1;
+                depths.set(at + 4, 1);
             }
-            if at + length == table.len() {
-                return Some(at);
+            if length == rest.len() {
+                return broken.map_or(Ok(at), Err);
             }
             at += length;
         }
+    }
+
+    /// The place that is told of a row.
+    #[inline]
+    fn place_told(at: usize, rest: &[u8]) -> usize {
+        if planted::<F>(Fault::RowPlaceZero) {
+            return 0;
+        }
+        if planted::<F>(Fault::NextRowPlace) && rest.len() >= 2 {
+            return at + usize::from(word(rest, 0));
+        }
+        at
+    }
+
+    /// The length and depth of the row that these octets start with, or its first part that is
+    /// wrong: its end, kind, length, numbers and flags, references, branches, depth.
+    #[inline]
+    fn test_row(rest: &[u8], depths: &Depths) -> Result<(usize, u8), Part> {
+        Self::test_too_early(rest)?;
+        hold(rest.len() >= 4, Refusal::ROW_END)?;
+        let length = usize::from(word(rest, 0));
+        let row = rest.get(..length).ok_or(Refusal::ROW_END)?;
+        let kind = if planted::<F>(Fault::KindLowOctet) {
+            u16::from(rest[2])
+        } else {
+            word(rest, 2)
+        };
+        let deepest = match kind {
+            kind::NUMBER => of_length::<12>(row).map(|_| 0)?,
+            kind::VARIABLE => of_length::<4>(row).map(|_| 0)?,
+            kind::FIXED_RUN => Self::test_run(row, bounds::FIXED_RUN, depths)?,
+            kind::COUNTED_RUN => Self::test_run(row, bounds::COUNTED_RUN, depths)?,
+            kind::RECORD => Self::test_record(row, depths)?,
+            kind::CHOICE => Self::test_choice(row, depths)?,
+            kind::OCTETS => {
+                within(word(of_length::<6>(row)?, 4), bounds::OCTETS)?;
+                0
+            }
+            _ => return Err(Refusal::ROW_KIND),
+        };
+        let depth_most = DEPTH_MOST + u8::from(planted::<F>(Fault::DepthOneMore));
+        hold(deepest < depth_most, Refusal::ROW_DEPTH)?;
+        Ok((length, deepest + 1))
+    }
+
+    /// The depth of the row that a run refers to.
+    #[inline]
+    fn test_run(row: &[u8], bounds: RangeInclusive<u16>, depths: &Depths) -> Result<u8, Part> {
+        let row = of_length::<8>(row)?;
+        let mut referred = Referred::to_none();
+        referred.add(depths.at(word(row, 6)));
+        if planted::<F>(Fault::ReferenceBeforeCount) {
+            hold(referred.known, Refusal::ROW_REFERENCE)?;
+        }
+        within(word(row, 4), bounds)?;
+        referred.deepest()
+    }
+
+    /// The depth of the deepest row that a record refers to. Every flag comes before every
+    /// reference.
+    #[inline]
+    fn test_record(row: &[u8], depths: &Depths) -> Result<u8, Part> {
+        let fields = Self::items::<4>(row, bounds::RECORD)?;
+        let mut flags = 0;
+        let mut referred = Referred::to_none();
+        for field in fields {
+            flags |= word(field, 2);
+            referred.add(depths.at(word(field, 0)));
+            if planted::<F>(Fault::FlagBesideReference) {
+                hold(flags <= 1, Refusal::ROW_NUMBER)?;
+                hold(referred.known, Refusal::ROW_REFERENCE)?;
+            }
+            if planted::<F>(Fault::DepthBeforeReference) {
+                hold(referred.deepest < DEPTH_MOST, Refusal::ROW_DEPTH)?;
+            }
+        }
+        if planted::<F>(Fault::ReferenceBeforeFlag) {
+            hold(referred.known, Refusal::ROW_REFERENCE)?;
+        }
+        hold(flags <= 1, Refusal::ROW_NUMBER)?;
+        referred.deepest()
+    }
+
+    /// The depth of the deepest row that a choice refers to; it refers to one at least.
+    #[inline]
+    fn test_choice(row: &[u8], depths: &Depths) -> Result<u8, Part> {
+        let branches = Self::items::<2>(row, bounds::CHOICE)?;
+        let mut referred = Referred::to_none();
+        for branch in branches {
+            match word(branch, 0) {
+                RESERVED => (),
+                reference => referred.add(depths.at(reference)),
+            }
+        }
+        let deepest = referred.deepest()?;
+        if planted::<F>(Fault::NoBranchAsReference) {
+            hold(deepest > 0, Refusal::ROW_REFERENCE)?;
+        }
+        hold(deepest > 0, Refusal::ROW_BRANCH)?;
+        Ok(deepest)
+    }
+
+    /// The fields of a record or the branches of a choice, of N octets each. Their count m stands
+    /// before them; it is held to the row's length, and then to its bounds.
+    #[inline]
+    fn items<const N: usize>(row: &[u8], bounds: RangeInclusive<u16>) -> Result<&[[u8; N]], Part> {
+        let (head, items) = row.split_first_chunk::<6>().ok_or(Refusal::ROW_LENGTH)?;
+        let m = word(head, 4);
+        if planted::<F>(Fault::BoundsInLength) {
+            hold(bounds.contains(&m), Refusal::ROW_LENGTH)?;
+        }
+        let right = if planted::<F>(Fault::LengthWraps) {
+            row.len() as u16 == m.wrapping_mul(N as u16).wrapping_add(6)
+        } else {
+            row.len() == 6 + N * usize::from(m)
+        };
+        hold(right, Refusal::ROW_LENGTH)?;
+        within(m, bounds)?;
+        Ok(items.as_chunks().0)
+    }
+
+    /// The faults that test a part of a row before those in front of it.
+    #[inline]
+    fn test_too_early(rest: &[u8]) -> Result<(), Part> {
+        let number = |index: usize| rest.get(2 * index..2 * index + 2).map(|at| word(at, 0));
+        let (Some(length), Some(kind)) = (number(0), number(1)) else {
+            return Ok(());
+        };
+        if planted::<F>(Fault::KindBeforeEnd) {
+            let known = (kind::NUMBER..=kind::OCTETS).contains(&kind);
+            hold(known, Refusal::ROW_KIND)?;
+        }
+        if planted::<F>(Fault::ShortLengthAsEnd) {
+            hold(length >= 4, Refusal::ROW_END)?;
+        }
+        if planted::<F>(Fault::LengthBeforeKind) {
+            hold(length >= 4, Refusal::ROW_LENGTH)?;
+        }
+        let ends = usize::from(length) <= rest.len();
+        if let (true, true, Some(count)) =
+            (planted::<F>(Fault::NumberBeforeLength), ends, number(2))
+        {
+            let bounds = match kind {
+                kind::FIXED_RUN => bounds::FIXED_RUN,
+                kind::COUNTED_RUN => bounds::COUNTED_RUN,
+                kind::RECORD => bounds::RECORD,
+                kind::CHOICE => bounds::CHOICE,
+                kind::OCTETS => bounds::OCTETS,
+                _ => 0..=u16::MAX,
+            };
+            within(count, bounds)?;
+        }
+        Ok(())
     }
 }

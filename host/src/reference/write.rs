@@ -248,11 +248,13 @@ impl<const F: u8> Engine<F> {
         values: &L,
         output: &mut [u8],
     ) -> Answer {
-        let Some(root) = Self::root_of(table) else {
-            output.fill(0);
-            return Refusal::new(Refusal::TABLE, 0).into();
-        };
-        Self::write_root(table, root, values, output)
+        match Self::root_for_message(table) {
+            Ok(root) => Self::write_root(table, root, values, output),
+            Err(refusal) => {
+                output.fill(0);
+                refusal.into()
+            }
+        }
     }
 
     pub(super) fn write_lm_values<L: ValueList + ?Sized>(values: &L, output: &mut [u8]) -> Answer {

@@ -125,14 +125,14 @@ fn calls() {
         cases as f64 / seconds
     );
     println!("{functions:?}");
-    println!("accepted {}, refused {:?}", stats.accepted, stats.refused);
+    println!("{stats}");
     if cases < 100_000 {
         return;
     }
     for function in exported() {
         assert!(functions.contains_key(function), "{function} is not called");
     }
-    for (number, &count) in stats.refused.iter().enumerate().skip(1) {
+    for (number, count) in stats.refusals() {
         assert!(count > 0, "refusal {number} is not met");
     }
 }
