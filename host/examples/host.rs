@@ -1,6 +1,6 @@
-// A host: checks a table, reads a message under it, writes the values back, and meets two refusals.
+// A host: checks a table, reads a message under it, writes the values back, and meets three refusals.
 
-use teyolxan_host::api::{check, read, write, Answer};
+use teyolxan_host::api::{check, read, write, Answer, Refusal};
 
 // The notice of a car park, from TABLES.md: each row with its offset.
 const TABLE: [u8; 128] = [
@@ -22,10 +22,20 @@ const MESSAGE: [u8; 13] = [
     0xC0, 0x56, 0x23, 0x01, 0x14, 0x14, 0x20, 0x24, 0x86, 0x90, 0x29, 0x6C, 0x80,
 ];
 
+fn refused(call: &str, number: u32, place: u64) {
+    let meaning = Refusal::meaning(number);
+    println!("{call}: refused {number} at {place}: {meaning}");
+}
+
 fn main() {
-    match check(&TABLE) {
-        Answer::Accepted { .. } => println!("table: passed"),
-        Answer::Refused { number, place } => println!("table: refused {number} at {place}"),
+    // As it is, then with one reference of the last row two octets late: 74 for 72.
+    let mut slip = TABLE;
+    slip[120] = 74;
+    for table in [TABLE, slip] {
+        match check(&table) {
+            Answer::Accepted { .. } => println!("table: passed"),
+            Answer::Refused { number, place } => refused("table", number, place),
+        }
     }
 
     // Cut, then whole. What the values leave of their slice is zeroed.
@@ -43,7 +53,12 @@ fn main() {
                 }
                 println!();
             }
-            Answer::Refused { number, place } => println!("read: refused {number} at bit {place}"),
+            // The rest may still come.
+            Answer::Refused {
+                number: Refusal::SHORT,
+                place,
+            } => println!("read: cut, the item at bit {place} is not whole"),
+            Answer::Refused { number, place } => refused("read", number, place),
         }
     }
 
@@ -59,9 +74,7 @@ fn main() {
                 }
                 println!();
             }
-            Answer::Refused { number, place } => {
-                println!("write: refused {number} at value {place}");
-            }
+            Answer::Refused { number, place } => refused("write", number, place),
         }
     }
 }

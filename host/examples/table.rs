@@ -1,30 +1,39 @@
 // Tries a table, by octets in a file or by the name of a built-in one:
 //
-//     table TABLE                 lists its rows, and the first rule that is broken
+//     table TABLE                 lists its rows, and the first that breaks a rule
 //     table TABLE read OCTETS     reads a message under it
 //     table TABLE write VALUES    writes a list of values under it
 //     table TABLE array           its octets, to be pasted into a program in Rust or C
 //
 // TABLE is LM, SAM, SRM or a file. Octets are in hex, as TABLES.md has them; in a file, what follows # on a line is a note.
-// The answers are the library's. The rows and the rule are found here, for whoever looks for a slip, and nothing proves them.
+// The answers are the library's: it finds the row that breaks a rule. Here rows are only put into words.
 
-use std::collections::BTreeMap;
 use std::env;
 use std::fs;
 use std::process::ExitCode;
 
-use teyolxan_host::api::{check, read, write, Answer};
-use teyolxan_host::assemble::{kind, Offset, RESERVED};
+use teyolxan_host::api::{check, read, write, Answer, Refusal};
+use teyolxan_host::assemble::{kind, RESERVED};
 use teyolxan_host::builtin;
 
 /// The values that there is room for, and the octets.
 const VALUES: usize = 65_536;
 const OCTETS: usize = 65_535;
 
+/// The octets of a wrong row that are shown.
+const SHOWN: usize = 32;
+
 /// A row's octets: numbers of two octets, of which its length and its kind are the first.
 struct Row<'a>(&'a [u8]);
 
 impl Row<'_> {
+    /// The row at an offset, as long as it says, but with its length and its kind, and within the table.
+    fn at(table: &[u8], offset: usize) -> Row<'_> {
+        let rest = &table[offset..];
+        let length = usize::from(Row(rest).number(0)).max(4);
+        Row(&rest[..length.min(rest.len())])
+    }
+
     /// A number of the row, or 0 where the row has ended.
     fn number(&self, index: usize) -> u16 {
         let octet = |at: usize| self.0.get(at).copied().unwrap_or(0);
@@ -35,9 +44,9 @@ impl Row<'_> {
         self.number(1)
     }
 
-    /// The count, the limit or m.
-    fn count(&self) -> u16 {
-        self.number(2)
+    /// The numbers behind m.
+    fn items(&self) -> Vec<u16> {
+        (3..self.0.len() / 2).map(|at| self.number(at)).collect()
     }
 
     fn name(&self) -> &'static str {
@@ -48,42 +57,15 @@ impl Row<'_> {
             kind::COUNTED_RUN => "counted run",
             kind::RECORD => "record",
             kind::CHOICE => "choice",
-            _ => "octets",
-        }
-    }
-
-    /// The length that the kind asks for, with m where the row has one.
-    fn right_length(&self) -> usize {
-        match self.kind() {
-            kind::NUMBER => 12,
-            kind::VARIABLE => 4,
-            kind::FIXED_RUN | kind::COUNTED_RUN => 8,
-            kind::RECORD => 6 + 4 * usize::from(self.count()),
-            kind::CHOICE => 6 + 2 * usize::from(self.count()),
-            _ => 6,
-        }
-    }
-
-    /// The references, each with its flag in a record.
-    fn references(&self) -> Vec<(Offset, u16)> {
-        let count = usize::from(self.count());
-        match self.kind() {
-            kind::FIXED_RUN | kind::COUNTED_RUN => vec![(self.number(3), 0)],
-            kind::RECORD => (0..count)
-                .map(|field| (self.number(3 + 2 * field), self.number(4 + 2 * field)))
-                .collect(),
-            kind::CHOICE => (0..count)
-                .map(|branch| (self.number(3 + branch), 0))
-                .collect(),
-            _ => Vec::new(),
+            kind::OCTETS => "octets",
+            _ => "unknown",
         }
     }
 
     /// The row in the words of TABLES.md.
     fn words(&self) -> String {
         let name = self.name();
-        let count = self.count();
-        let references = self.references();
+        let count = self.number(2); // or a limit, or m
         match self.kind() {
             kind::NUMBER => {
                 let low = (u32::from(self.number(3)) << 16 | u32::from(count)) as i32;
@@ -91,122 +73,84 @@ impl Row<'_> {
                 let high = i64::from(low) + i64::from(span);
                 format!("{name}, low {low}, span {span}: {low} to {high}")
             }
-            kind::FIXED_RUN => format!("{name}, {count} of row {}", references[0].0),
-            kind::COUNTED_RUN => format!("{name}, most {count}, of row {}", references[0].0),
+            kind::FIXED_RUN => format!("{name}, {count} of row {}", self.number(3)),
+            kind::COUNTED_RUN => format!("{name}, most {count}, of row {}", self.number(3)),
             kind::RECORD => {
-                let fields: Vec<_> = references
-                    .iter()
-                    .map(|&(row, flag)| format!("{row}{}", ["", " optional"][usize::from(flag)]))
+                let items = self.items();
+                let fields: Vec<_> = items
+                    .chunks(2)
+                    .map(|field| match field {
+                        [row, 0] => format!("{row}"),
+                        [row, 1] => format!("{row} optional"),
+                        [row, flag] => format!("{row} flag {flag}"),
+                        rest => format!("{rest:?}"),
+                    })
                     .collect();
                 format!("{name} of {count}: rows {}", fields.join(", "))
             }
             kind::CHOICE => {
-                let branches: Vec<_> = references
+                let branches: Vec<_> = self
+                    .items()
                     .iter()
                     .enumerate()
-                    .filter(|(_, &(row, _))| row != RESERVED)
-                    .map(|(index, (row, _))| format!("{index} row {row}"))
+                    .filter(|(_, row)| **row != RESERVED)
+                    .map(|(index, row)| format!("{index} row {row}"))
                     .collect();
-                format!("{name} of {count}: {}", branches.join(", "))
+                match branches.is_empty() {
+                    true => format!("{name} of {count}: no row"),
+                    false => format!("{name} of {count}: {}", branches.join(", ")),
+                }
             }
-            kind::VARIABLE => name.to_string(),
-            _ => format!("{name}, most {count}"),
+            kind::OCTETS => format!("{name}, most {count}"),
+            _ => name.to_string(),
+        }
+    }
+
+    /// What stands in the part of the row that the refusal is about; so many octets are left for it.
+    fn part(&self, refusal: u32, left: usize) -> String {
+        let length = self.number(0);
+        match refusal {
+            Refusal::ROW_END if left < 4 => format!("{left} octets are left"),
+            Refusal::ROW_END => format!("length {length}, and {left} octets are left"),
+            Refusal::ROW_KIND => format!("kind {}", self.kind()),
+            Refusal::ROW_LENGTH => match self.kind() {
+                kind::RECORD | kind::CHOICE if self.0.len() >= 6 => {
+                    format!("{}, length {length}, m {}", self.name(), self.number(2))
+                }
+                _ => format!("{}, length {length}", self.name()),
+            },
+            _ => self.words(),
         }
     }
 }
 
-/// The row at an offset, once its length and its kind are right.
-fn row_at(table: &[u8], at: usize) -> Result<Row<'_>, String> {
-    let rest = &table[at..];
-    if rest.len() < 4 {
-        return Err(format!("rule 2: {} octets are left for a row", rest.len()));
-    }
-    let head = Row(rest);
-    let length = usize::from(head.number(0));
-    if rest.len() < length {
-        return Err(format!(
-            "rule 2: its length is {length}, and {} octets are left",
-            rest.len()
-        ));
-    }
-    let kind = head.kind();
-    if !(kind::NUMBER..=kind::OCTETS).contains(&kind) {
-        return Err(format!("rule 3: its kind is {kind}"));
-    }
-    let name = head.name();
-    let right = head.right_length();
-    if length != right {
-        return Err(format!(
-            "rule 4: its length is {length}; this {name} has {right}"
-        ));
-    }
-    Ok(Row(&rest[..length]))
-}
-
-/// The depth of a row, once its numbers and its references are right. The depths are those of the rows before.
-fn depth(row: &Row, depths: &BTreeMap<Offset, usize>) -> Result<usize, String> {
-    let count = row.count();
-    let bounds = match row.kind() {
-        kind::FIXED_RUN => 1..=1_024,
-        kind::COUNTED_RUN => 1..=16_383,
-        kind::RECORD => 1..=32,
-        kind::CHOICE => 2..=128,
-        kind::OCTETS => 0..=16_383,
-        _ => 0..=u16::MAX,
+/// Lists the rows; of a refused table those before the row at fault, and what stands in that.
+fn list(table: &[u8], verdict: Answer) {
+    let (refusal, end) = match verdict {
+        Answer::Accepted { .. } => (None, table.len()),
+        Answer::Refused { number, place } => (Some(number), table.len().min(place as usize)),
     };
-    if !bounds.contains(&count) {
-        let (least, most) = bounds.into_inner();
-        return Err(format!("rule 5: {count} is not within {least} to {most}"));
+    let mut at = 0;
+    while at < end {
+        let row = Row::at(table, at);
+        println!("{at:>5}  {}", row.words());
+        at += row.0.len();
     }
-    let mut deepest = 0;
-    let mut branches = 0;
-    for (reference, flag) in row.references() {
-        if flag > 1 {
-            return Err(format!("rule 5: flag {flag} beside reference {reference}"));
+    match refusal {
+        Some(Refusal::TABLE_SIZE) => println!("{:>5}  {} octets", "", table.len()),
+        Some(number) => {
+            let row = Row::at(table, end);
+            let more = if row.0.len() > SHOWN { " .." } else { "" };
+            println!("{end:>5}  {}{more}", hex(&row.0[..row.0.len().min(SHOWN)]));
+            println!("{:>5}  {}", "", row.part(number, table.len() - end));
         }
-        if row.kind() == kind::CHOICE && reference == RESERVED {
-            continue;
-        }
-        let Some(&depth) = depths.get(&reference) else {
-            return Err(format!("rule 6: at {reference} no earlier row begins"));
-        };
-        branches += 1;
-        deepest = deepest.max(depth);
+        None => (),
     }
-    if row.kind() == kind::CHOICE && branches == 0 {
-        return Err("rule 7: every branch is reserved".to_string());
-    }
-    if deepest == 32 {
-        return Err("rule 8: it is 33 deep".to_string());
-    }
-    Ok(deepest + 1)
 }
 
-/// Lists the rows up to the first that breaks a rule.
-fn list(table: &[u8]) {
-    if !(4..=4_096).contains(&table.len()) {
-        println!("rule 1: the table has {} octets", table.len());
-        return;
-    }
-    let mut depths = BTreeMap::new();
-    let mut at = 0;
-    while at < table.len() {
-        let found = row_at(table, at).and_then(|row| {
-            let depth = depth(&row, &depths)?;
-            Ok((row, depth))
-        });
-        match found {
-            Ok((row, depth)) => {
-                println!("{at:>5}  {}", row.words());
-                depths.insert(at as Offset, depth);
-                at += row.0.len();
-            }
-            Err(fault) => {
-                println!("{at:>5}  {fault}");
-                return;
-            }
-        }
-    }
+fn hex(octets: &[u8]) -> String {
+    let words: Vec<_> = octets.iter().map(|octet| format!("{octet:02X}")).collect();
+    words.join(" ")
 }
 
 /// Octets in hex, with or without spaces.
@@ -249,7 +193,7 @@ fn run(words: &[String]) -> Result<Answer, String> {
     let table = table(name)?;
     let verdict = check(&table);
     let Some((verb, rest)) = rest.split_first() else {
-        list(&table);
+        list(&table, verdict);
         return Ok(verdict);
     };
     match verb.as_str() {
@@ -272,11 +216,7 @@ fn run(words: &[String]) -> Result<Answer, String> {
             let mut output = vec![0; OCTETS];
             let answer = write(&table, &values, &mut output);
             if let Answer::Accepted { octets: count, .. } = answer {
-                let words: Vec<_> = output[..count as usize]
-                    .iter()
-                    .map(|octet| format!("{octet:02X}"))
-                    .collect();
-                println!("{}", words.join(" "));
+                println!("{}", hex(&output[..count as usize]));
             }
             Ok(answer)
         }
@@ -306,7 +246,7 @@ fn main() -> ExitCode {
             ExitCode::SUCCESS
         }
         Ok(Answer::Refused { number, place }) => {
-            eprintln!("refused {number} at {place}");
+            eprintln!("refused {number} at {place}: {}", Refusal::meaning(number));
             ExitCode::FAILURE
         }
         Err(fault) => {

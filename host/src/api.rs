@@ -1,11 +1,12 @@
 //! What a host calls: check, read and write under a lent table. Any octets may be lent; no call
-//! panics, allocates, or holds anything back. docs/HOST.md has an example.
+//! panics, allocates, or holds anything back. `Refusal` has a name for each refusal's number, and
+//! what it means in a sentence. docs/HOST.md has an example.
 
 use crate::linked::{self, Numbers};
 
-pub use crate::codec::Answer;
+pub use crate::codec::{Answer, Refusal};
 
-/// Whether the table obeys the rules of document 01.
+/// Whether the table obeys the rules of document 01; if not, its first row that breaks one.
 #[inline]
 pub fn check(table: &[u8]) -> Answer {
     answer(|numbers| linked::check(table, numbers))

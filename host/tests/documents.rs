@@ -1,11 +1,17 @@
-//! docs/HOST.md: its examples are the files in examples/, and they print what it says.
+//! docs/HOST.md: its examples are the files in examples/, and they print what it says. The refusals
+//! have the same numbers, names and sentences in the documents, in Rust and in C.
 
+use std::collections::BTreeSet;
 use std::env;
 use std::fs;
 use std::path::{Path, PathBuf};
 use std::process::Command;
 
+use teyolxan_host::api::Refusal;
+
 const HOST: &str = include_str!("../../docs/HOST.md");
+const TABLES: &str = include_str!("../../docs/TABLES.md");
+const HEADER: &str = include_str!("../include/teyolxan.h");
 
 /// The blocks of HOST.md that are marked with a language.
 fn blocks(language: &str) -> Vec<&'static str> {
@@ -35,8 +41,7 @@ fn the_declarations_are_those_of_the_header() {
     let declarations = blocks("c")[0].split("\n\n");
     let mut count = 0;
     for declaration in declarations {
-        let header = include_str!("../include/teyolxan.h");
-        assert!(header.contains(declaration), "{declaration}");
+        assert!(HEADER.contains(declaration), "{declaration}");
         count += 1;
     }
     assert_eq!(count, 3);
@@ -64,35 +69,115 @@ fn the_rust_example_prints_what_is_said() {
     assert_eq!(printed(&example), last_block("text"));
 }
 
-#[test]
-fn the_c_example_prints_what_is_said() {
-    if Command::new("cc").arg("--version").output().is_err() {
-        println!("there is no cc: the example in C is not tried");
-        return;
+/// Compiles a program without a warning, if the compiler is there.
+fn compiled(compiler: &str, standard: &str, name: &str, sources: &[&Path]) -> Option<PathBuf> {
+    if Command::new(compiler).arg("--version").output().is_err() {
+        println!("there is no {compiler}: {name} is not tried");
+        return None;
     }
     let folder = PathBuf::from(env!("CARGO_TARGET_TMPDIR"));
-    let program = folder.join("host-in-c");
+    let program = folder.join(name);
     fs::create_dir_all(&folder).expect("a folder for the program");
-    let output = Command::new("cc")
-        .args([
-            "-std=c99",
-            "-pedantic",
-            "-Wall",
-            "-Wextra",
-            "-Werror",
-            "-O2",
-        ])
+    let output = Command::new(compiler)
+        .arg(standard)
+        .args(["-pedantic", "-Wall", "-Wextra", "-Werror", "-O2"])
         .arg(concat!("-I", env!("CARGO_MANIFEST_DIR"), "/include"))
-        .arg(concat!(env!("CARGO_MANIFEST_DIR"), "/examples/host.c"))
-        .arg(concat!(env!("TEYOLXAN_ARCHIVES_FOLDER"), "/libteyolxan.a"))
+        .args(sources)
         .arg("-o")
         .arg(&program)
         .output()
-        .expect("cc runs");
-    assert!(
-        output.status.success(),
-        "{}",
-        String::from_utf8_lossy(&output.stderr)
-    );
-    assert_eq!(printed(&program), last_block("text"));
+        .expect("the compiler runs");
+    let told = String::from_utf8_lossy(&output.stderr);
+    assert!(output.status.success(), "{told}");
+    Some(program)
+}
+
+#[test]
+fn the_c_example_prints_what_is_said() {
+    let sources = [
+        concat!(env!("CARGO_MANIFEST_DIR"), "/examples/host.c"),
+        concat!(env!("TEYOLXAN_ARCHIVES_FOLDER"), "/libteyolxan.a"),
+    ];
+    let program = compiled("cc", "-std=c99", "host-in-c", &sources.map(Path::new));
+    if let Some(program) = program {
+        assert_eq!(printed(&program), last_block("text"));
+    }
+}
+
+#[test]
+fn refusals_are_named_and_explained_alike() {
+    for &number in Refusal::ALL {
+        let name = Refusal::name(number).expect("a name");
+        let meaning = Refusal::meaning(number);
+        let (constant, tested) = (
+            format!("    TEYOLXAN_REFUSED_{name} = {number}"),
+            format!("    case TEYOLXAN_REFUSED_{name}:\n        return \"{meaning}\";\n"),
+        );
+        let ends = [",", "\n"].map(|end| HEADER.contains(&format!("{constant}{end}")));
+        assert!(ends.contains(&true), "the header lacks: {constant}");
+        assert!(HEADER.contains(&tested), "the header lacks: {tested}");
+        let row = format!("\n| {number} | `{name}` | {meaning} |");
+        assert!(HOST.contains(&row), "docs/HOST.md lacks: {row}");
+        let row = format!("\n| {number} | {meaning} |");
+        assert!(TABLES.contains(&row), "docs/TABLES.md lacks: {row}");
+    }
+    // No others: each is declared and tested, and has a sentence of its own.
+    let count = Refusal::ALL.len();
+    assert_eq!(HEADER.matches("TEYOLXAN_REFUSED_").count(), 2 * count);
+    let meanings: BTreeSet<_> = Refusal::ALL
+        .iter()
+        .map(|&at| Refusal::meaning(at))
+        .collect();
+    assert_eq!(meanings.len(), count);
+    assert!(!meanings.contains(Refusal::meaning(0)));
+    assert!(Refusal::ALL.is_sorted_by(|left, right| left < right));
+}
+
+/// The header's sentences, as a program prints them that calls nothing else; in C++ too.
+#[test]
+fn the_header_gives_the_sentences_of_rust() {
+    const PROGRAM: &str = r#"#include "teyolxan.h"
+#include <stdio.h>
+
+int main(void)
+{
+    for (uint64_t number = 0; number < 100; number++)
+        puts(teyolxan_meaning(number));
+    puts(teyolxan_meaning(UINT64_MAX));
+    return 0;
+}
+"#;
+    let numbers = (0..100).chain([u32::MAX]);
+    let expected: String = numbers
+        .map(|number| format!("{}\n", Refusal::meaning(number)))
+        .collect();
+    let folder = PathBuf::from(env!("CARGO_TARGET_TMPDIR"));
+    fs::create_dir_all(&folder).expect("a folder for the programs");
+    for (compiler, standard, file) in [
+        ("cc", "-std=c99", "meanings.c"),
+        ("c++", "-std=c++11", "meanings.cc"),
+    ] {
+        let source = folder.join(file);
+        fs::write(&source, PROGRAM).expect("a program is written");
+        let name = file.replace('.', "-in-");
+        if let Some(program) = compiled(compiler, standard, &name, &[&source]) {
+            assert_eq!(printed(&program), expected);
+        }
+    }
+}
+
+/// A program that takes the header and asks for no sentence has no warning either.
+#[test]
+fn the_header_alone_has_no_warning() {
+    let folder = PathBuf::from(env!("CARGO_TARGET_TMPDIR"));
+    fs::create_dir_all(&folder).expect("a folder for the programs");
+    for (compiler, standard, file) in [
+        ("cc", "-std=c99", "header.c"),
+        ("c++", "-std=c++11", "header.cc"),
+    ] {
+        let source = folder.join(file);
+        let program = "#include \"teyolxan.h\"\nint main(void) { return 0; }\n";
+        fs::write(&source, program).expect("a program is written");
+        compiled(compiler, standard, &file.replace('.', "-in-"), &[&source]);
+    }
 }

@@ -1,9 +1,17 @@
-//! docs/TABLES.md: its example is the file in examples/, and the table finder says what it says.
+//! docs/TABLES.md: its example is the file in examples/, and the program for tables says what it says.
 
+use std::collections::BTreeSet;
 use std::env;
 use std::fs;
 use std::path::{Path, PathBuf};
 use std::process::Command;
+
+use teyolxan_host::api::{Answer, Refusal};
+use teyolxan_host::random::{nearly_passing_table, Random};
+use teyolxan_host::reference;
+
+/// Tables that are drawn and listed.
+const DRAWS: u64 = 300;
 
 const TABLES: &str = include_str!("../../docs/TABLES.md");
 const NOTICE: &str = include_str!("../examples/notice.txt");
@@ -31,46 +39,175 @@ fn notice() -> PathBuf {
     Path::new(env!("CARGO_MANIFEST_DIR")).join("examples/notice.txt")
 }
 
-/// Each slip of the document: what is changed in the example, and the line that is told of it.
+/// A slip of the document: the table with it, its octets there, the answer, and what is listed of
+/// the row at fault.
+struct Slip {
+    table: String,
+    octets: &'static str,
+    number: u32,
+    place: u64,
+    listed: &'static str,
+}
+
+/// The example with a part changed.
+fn changed(
+    right: &str,
+    octets: &'static str,
+    (number, place): (u32, u64),
+    listed: &'static str,
+) -> Slip {
+    assert_eq!(NOTICE.matches(right).count(), 1, "{right}");
+    Slip {
+        table: NOTICE.replace(right, octets),
+        octets,
+        number,
+        place,
+        listed,
+    }
+}
+
+/// Every slip of the document, one for each refusal of a table at least.
+fn slips() -> Vec<Slip> {
+    let small = Slip {
+        table: "0C 00 01".to_string(),
+        octets: "0C 00 01",
+        number: Refusal::TABLE_SIZE,
+        place: 0,
+        listed: "3 octets",
+    };
+    // Each record is around the row before it: the notice at 98, then 128, 138 and so on.
+    let before = [98].into_iter().chain((128..418).step_by(10));
+    let record = |row: u16| {
+        let [low, high] = row.to_le_bytes();
+        format!("0A 00 05 00 01 00 {low:02X} {high:02X} 00 00\n")
+    };
+    let deep = Slip {
+        table: NOTICE.to_string() + &before.map(record).collect::<String>(),
+        octets: "0A 00 05 00 01 00 62 00 00 00",
+        number: Refusal::ROW_DEPTH,
+        place: 418,
+        listed: "record of 1: rows 408",
+    };
+    vec![
+        small,
+        changed(
+            "0C 00 01 00 D8 FF FF FF 7D 00 00 00",
+            "0C 00 01 00 D8 FF FF 7D 00 00 00",
+            (Refusal::ROW_END, 24),
+            "length 512, and 103 octets are left",
+        ),
+        changed(
+            "06 00 07 00 14 00",
+            "06 00 00 07 14 00",
+            (Refusal::ROW_KIND, 72),
+            "kind 1792",
+        ),
+        changed(
+            "0C 00 06 00 03 00 1C 00 FF FF 28 00",
+            "0E 00 06 00 03 00 1C 00 FF FF 28 00",
+            (Refusal::ROW_LENGTH, 52),
+            "choice, length 14, m 3",
+        ),
+        changed(
+            "08 00 04 00 04 00 4E 00",
+            "08 00 04 00 00 00 4E 00",
+            (Refusal::ROW_NUMBER, 90),
+            "counted run, most 0, of row 78",
+        ),
+        changed(
+            "48 00 01 00",
+            "48 00 02 00",
+            (Refusal::ROW_NUMBER, 98),
+            "record of 6: rows 24, 12, 52, 64, 72 flag 2, 90",
+        ),
+        changed(
+            "48 00 01 00",
+            "4A 00 01 00",
+            (Refusal::ROW_REFERENCE, 98),
+            "record of 6: rows 24, 12, 52, 64, 74 optional, 90",
+        ),
+        changed(
+            "0C 00 06 00 03 00 1C 00 FF FF 28 00",
+            "0C 00 06 00 03 00 FF FF FF FF FF FF",
+            (Refusal::ROW_BRANCH, 52),
+            "choice of 3: no row",
+        ),
+        deep,
+    ]
+}
+
 #[test]
 fn slips_are_told_as_the_document_says() {
-    let slips = [
-        (
-            "48 00 01 00 ",
-            "4A 00 01 00 ",
-            "98  rule 6: at 74 no earlier row begins",
-        ),
-        (
-            "08 00 04 00 04 00",
-            "08 00 04 00 00 00",
-            "90  rule 5: 0 is not within 1 to 16383",
-        ),
-        (
-            "48 00 01 00 ",
-            "48 00 02 00 ",
-            "98  rule 5: flag 2 beside reference 72",
-        ),
-        (
-            "0C 00 06 00 03 00",
-            "0E 00 06 00 03 00",
-            "52  rule 4: its length is 14; this choice has 12",
-        ),
-        (
-            "D8 FF FF FF",
-            "D8 FF FF",
-            "24  rule 2: its length is 512, and 103 octets are left",
-        ),
-    ];
     let folder = PathBuf::from(env!("CARGO_TARGET_TMPDIR"));
     fs::create_dir_all(&folder).expect("a folder for the tables");
-    for (index, (right, wrong, told)) in slips.into_iter().enumerate() {
-        assert_eq!(NOTICE.matches(right).count(), 1, "{right}");
+    let mut numbers = BTreeSet::new();
+    for (index, slip) in slips().into_iter().enumerate() {
+        let (number, place) = (slip.number, slip.place);
         let file = folder.join(format!("slip{index}.txt"));
-        fs::write(&file, NOTICE.replace(right, wrong)).expect("a table is written");
+        fs::write(&file, slip.table).expect("a table is written");
+        let told = format!(
+            "refused {number} at {place}: {}\n",
+            Refusal::meaning(number)
+        );
         let text = printed(&file, &[]);
-        assert!(text.contains(told), "{told}: {text}");
-        assert!(text.ends_with("refused 1 at 0\n"), "{text}");
-        assert!(TABLES.contains(told), "docs/TABLES.md lacks: {told}");
+        let end = format!("       {}\n{told}", slip.listed);
+        assert!(text.ends_with(&end), "{end}: {text}");
+        for words in [&["read", "00"][..], &["read"], &["write", "1", "2"]] {
+            assert_eq!(printed(&file, words), told);
+        }
+        let (octets, cells) = (
+            format!("| `{}`", slip.octets),
+            format!(" | {number} at {place} | `{}` |\n", slip.listed),
+        );
+        let mut rows = TABLES.split_inclusive('\n');
+        assert!(
+            rows.any(|row| row.contains(&octets) && row.ends_with(&cells)),
+            "docs/TABLES.md lacks: {octets}{cells}"
+        );
+        numbers.insert(number);
+    }
+    let of_tables = |number: &&u32| Refusal::is_of_table(**number);
+    assert!(numbers.iter().eq(Refusal::ALL.iter().filter(of_tables)));
+}
+
+/// The list in the document is what is printed.
+#[test]
+fn the_slip_of_the_document_is_listed() {
+    let block = TABLES
+        .split("```text\n")
+        .nth(1)
+        .and_then(|rest| rest.split("```").next())
+        .expect("a block of text");
+    let file = PathBuf::from(env!("CARGO_TARGET_TMPDIR")).join("slip.txt");
+    fs::create_dir_all(file.parent().expect("a folder")).expect("a folder for the table");
+    let table = NOTICE.replace("48 00 01 00", "4A 00 01 00");
+    fs::write(&file, table).expect("a table is written");
+    let text = printed(&file, &[]);
+    assert!(text.ends_with(block), "{text}");
+}
+
+/// Whatever the octets are, the rows are listed up to the one that is refused, and the program ends
+/// as it should.
+#[test]
+fn any_octets_are_listed() {
+    let folder = PathBuf::from(env!("CARGO_TARGET_TMPDIR"));
+    fs::create_dir_all(&folder).expect("a folder for the tables");
+    let file = folder.join("any.txt");
+    for number in 0..DRAWS {
+        let table = nearly_passing_table(&mut Random::for_case(11, number));
+        let octets: String = table.iter().map(|octet| format!("{octet:02X}")).collect();
+        fs::write(&file, &octets).expect("a table is written");
+        let told = match reference::check(&table) {
+            Answer::Accepted { .. } => "accepted: 0 values, 0 bits, 0 octets\n".to_string(),
+            Answer::Refused { number, place } => {
+                format!(
+                    "refused {number} at {place}: {}\n",
+                    Refusal::meaning(number)
+                )
+            }
+        };
+        let text = printed(&file, &[]);
+        assert!(text.ends_with(&told), "{octets}: {text}");
     }
 }
 
