@@ -56,7 +56,7 @@ int main(void)
     /* Cut, then whole. What the values leave of their slice is zeroed. */
     for (size_t length = 12; length <= 13; length++) {
         teyolxan_read(table, sizeof table, message, length, (uint8_t *)values, sizeof values, numbers);
-        if (numbers[TEYOLXAN_NUMBER] == TEYOLXAN_REFUSED_SHORT) { /* the rest may still come */
+        if (numbers[TEYOLXAN_NUMBER] == TEYOLXAN_REFUSED_MESSAGE_ENDS) { /* the rest may still come */
             printf("read: cut, the item at bit %" PRIu64 " is not whole\n", numbers[TEYOLXAN_PLACE]);
             continue;
         }

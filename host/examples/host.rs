@@ -23,8 +23,7 @@ const MESSAGE: [u8; 13] = [
 ];
 
 fn refused(call: &str, number: u32, place: u64) {
-    let meaning = Refusal::meaning(number);
-    println!("{call}: refused {number} at {place}: {meaning}");
+    println!("{call}: {}", Refusal { number, place });
 }
 
 fn main() {
@@ -55,7 +54,7 @@ fn main() {
             }
             // The rest may still come.
             Answer::Refused {
-                number: Refusal::SHORT,
+                number: Refusal::MESSAGE_ENDS,
                 place,
             } => println!("read: cut, the item at bit {place} is not whole"),
             Answer::Refused { number, place } => refused("read", number, place),

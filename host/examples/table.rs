@@ -8,13 +8,20 @@
 // TABLE is LM, SAM, SRM or a file. Octets are in hex, as TABLES.md has them; in a file, what follows # on a line is a note.
 // The answers are the library's: it finds the row that breaks a rule. Here rows are only put into words.
 
+use std::collections::BTreeSet;
 use std::env;
+use std::ffi::OsString;
+use std::fmt::Write as _;
 use std::fs;
+use std::io::{self, Write as _};
 use std::process::ExitCode;
 
 use teyolxan_host::api::{check, read, write, Answer, Refusal};
 use teyolxan_host::assemble::{kind, RESERVED};
 use teyolxan_host::builtin;
+
+const USAGE: &str =
+    "table TABLE [read OCTETS | write VALUES | array], where TABLE is LM, SAM, SRM or a file";
 
 /// The values that there is room for, and the octets.
 const VALUES: usize = 65_536;
@@ -27,7 +34,7 @@ const SHOWN: usize = 32;
 struct Row<'a>(&'a [u8]);
 
 impl Row<'_> {
-    /// The row at an offset, as long as it says, but with its length and its kind, and within the table.
+    /// The row at an offset: as many octets as its length says, four at least, and no more than are left.
     fn at(table: &[u8], offset: usize) -> Row<'_> {
         let rest = &table[offset..];
         let length = usize::from(Row(rest).number(0)).max(4);
@@ -47,6 +54,17 @@ impl Row<'_> {
     /// The numbers behind m.
     fn items(&self) -> Vec<u16> {
         (3..self.0.len() / 2).map(|at| self.number(at)).collect()
+    }
+
+    /// The references, but for those of reserved branches.
+    fn references(&self) -> Vec<u16> {
+        let items = self.items();
+        match self.kind() {
+            kind::FIXED_RUN | kind::COUNTED_RUN => items.into_iter().take(1).collect(),
+            kind::RECORD => items.into_iter().step_by(2).collect(),
+            kind::CHOICE => items.into_iter().filter(|&row| row != RESERVED).collect(),
+            _ => Vec::new(),
+        }
     }
 
     fn name(&self) -> &'static str {
@@ -86,7 +104,10 @@ impl Row<'_> {
                         rest => format!("{rest:?}"),
                     })
                     .collect();
-                format!("{name} of {count}: rows {}", fields.join(", "))
+                match fields.is_empty() {
+                    true => format!("{name} of {count}: no row"),
+                    false => format!("{name} of {count}: rows {}", fields.join(", ")),
+                }
             }
             kind::CHOICE => {
                 let branches: Vec<_> = self
@@ -106,46 +127,85 @@ impl Row<'_> {
         }
     }
 
-    /// What stands in the part of the row that the refusal is about; so many octets are left for it.
-    fn part(&self, refusal: u32, left: usize) -> String {
-        let length = self.number(0);
+    /// What stands in the part of the row that the refusal is about, and what TABLES.md asks there. So many octets are left
+    /// for the row; `rows` are the offsets of those before it.
+    fn part(&self, refusal: u32, left: usize, rows: &BTreeSet<usize>) -> String {
+        let (name, length, count) = (self.name(), self.number(0), self.number(2));
         match refusal {
-            Refusal::ROW_END if left < 4 => format!("{left} octets are left"),
-            Refusal::ROW_END => format!("length {length}, and {left} octets are left"),
-            Refusal::ROW_KIND => format!("kind {}", self.kind()),
-            Refusal::ROW_LENGTH => match self.kind() {
-                kind::RECORD | kind::CHOICE if self.0.len() >= 6 => {
-                    format!("{}, length {length}, m {}", self.name(), self.number(2))
+            Refusal::ROW_PAST_END if left < 4 => format!("octets left: {left}"),
+            Refusal::ROW_PAST_END => format!("length {length}, octets left: {left}"),
+            Refusal::UNKNOWN_KIND => format!("kind {}", self.kind()),
+            Refusal::WRONG_ROW_LENGTH => match (self.kind(), usize::from(count)) {
+                (kind::NUMBER, _) => format!("{name}, length {length}: it has 12"),
+                (kind::VARIABLE, _) => format!("{name}, length {length}: it has 4"),
+                (kind::OCTETS, _) => format!("{name}, length {length}: it has 6"),
+                (kind::FIXED_RUN | kind::COUNTED_RUN, _) => {
+                    format!("{name}, length {length}: it has 8")
                 }
-                _ => format!("{}, length {length}", self.name()),
+                (_, _) if self.0.len() < 6 => format!("{name}, length {length}: it has no m"),
+                (kind, m) => {
+                    let right = 6 + m * if kind == kind::RECORD { 4 } else { 2 };
+                    format!("{name}, length {length}, m {m}: with this m it has {right}")
+                }
             },
+            Refusal::WRONG_ROW_NUMBER => {
+                let bounds = match self.kind() {
+                    kind::FIXED_RUN => 1..=1_024,
+                    kind::RECORD => 1..=32,
+                    kind::CHOICE => 2..=128,
+                    kind::OCTETS => 0..=16_383,
+                    _ => 1..=16_383,
+                };
+                let asked = match bounds.contains(&count) {
+                    true => "a flag is 0 or 1".to_string(),
+                    false => format!("{} to {} are allowed", bounds.start(), bounds.end()),
+                };
+                format!("{}: {asked}", self.words())
+            }
+            Refusal::WRONG_REFERENCE => {
+                let stray: Vec<_> = self
+                    .references()
+                    .into_iter()
+                    .filter(|&row| !rows.contains(&usize::from(row)))
+                    .map(|row| row.to_string())
+                    .collect();
+                let stray = stray.join(", ");
+                format!("{}: no row before it begins at {stray}", self.words())
+            }
             _ => self.words(),
         }
     }
 }
 
-/// Lists the rows; of a refused table those before the row at fault, and what stands in that.
-fn list(table: &[u8], verdict: Answer) {
+/// The rows in words; of a refused table those before the row at fault, and what stands in that.
+fn list(table: &[u8], verdict: Answer) -> String {
     let (refusal, end) = match verdict {
         Answer::Accepted { .. } => (None, table.len()),
         Answer::Refused { number, place } => (Some(number), table.len().min(place as usize)),
     };
+    let mut text = String::new();
+    let mut rows = BTreeSet::new();
     let mut at = 0;
     while at < end {
         let row = Row::at(table, at);
-        println!("{at:>5}  {}", row.words());
+        let _ = writeln!(text, "{at:>5}  {}", row.words());
+        rows.insert(at);
         at += row.0.len();
     }
     match refusal {
-        Some(Refusal::TABLE_SIZE) => println!("{:>5}  {} octets", "", table.len()),
+        Some(Refusal::TABLE_SIZE) => {
+            let _ = writeln!(text, "{:>5}  octets: {}", "", table.len());
+        }
         Some(number) => {
             let row = Row::at(table, end);
             let more = if row.0.len() > SHOWN { " .." } else { "" };
-            println!("{end:>5}  {}{more}", hex(&row.0[..row.0.len().min(SHOWN)]));
-            println!("{:>5}  {}", "", row.part(number, table.len() - end));
+            let octets = hex(&row.0[..row.0.len().min(SHOWN)]);
+            let part = row.part(number, table.len() - end, &rows);
+            let _ = writeln!(text, "{end:>5}  {octets}{more}\n{:>5}  {part}", "");
         }
         None => (),
     }
+    text
 }
 
 fn hex(octets: &[u8]) -> String {
@@ -153,17 +213,23 @@ fn hex(octets: &[u8]) -> String {
     words.join(" ")
 }
 
-/// Octets in hex, with or without spaces.
+/// Octets in hex: two digits each, with or without spaces between octets.
 fn octets(text: &str) -> Result<Vec<u8>, String> {
-    let digits: String = text.split_whitespace().collect();
-    if !digits.is_ascii() || digits.len() % 2 == 1 {
-        return Err(format!("octets are two digits each: {text}"));
+    let mut octets = Vec::new();
+    for word in text.split_whitespace() {
+        let pairs = word.as_bytes().chunks(2);
+        for pair in pairs {
+            let digit = |at: usize| {
+                pair.get(at)
+                    .and_then(|&digit| char::from(digit).to_digit(16))
+            };
+            match (digit(0), digit(1)) {
+                (Some(high), Some(low)) => octets.push((high << 4 | low) as u8),
+                _ => return Err(format!("octets are two hex digits each, not {word:?}")),
+            }
+        }
     }
-    (0..digits.len())
-        .step_by(2)
-        .map(|at| u8::from_str_radix(&digits[at..at + 2], 16))
-        .collect::<Result<_, _>>()
-        .map_err(|error| format!("{error}: {text}"))
+    Ok(octets)
 }
 
 /// The table of a name, or of a file.
@@ -185,17 +251,17 @@ fn table(name: &str) -> Result<Vec<u8>, String> {
     }
 }
 
-/// Does what the words ask for, and gives the answer.
-fn run(words: &[String]) -> Result<Answer, String> {
+/// Does what the words ask for: what it prints, and the answer.
+fn run(words: &[String]) -> Result<(String, Answer), String> {
     let [name, rest @ ..] = words else {
-        return Err("which table?".to_string());
+        return Err(USAGE.to_string());
     };
     let table = table(name)?;
     let verdict = check(&table);
     let Some((verb, rest)) = rest.split_first() else {
-        list(&table, verdict);
-        return Ok(verdict);
+        return Ok((list(&table, verdict), verdict));
     };
+    let mut text = String::new();
     match verb.as_str() {
         "read" => {
             let message = octets(&rest.join(" "))?;
@@ -206,19 +272,19 @@ fn run(words: &[String]) -> Result<Answer, String> {
                     .iter()
                     .map(i64::to_string)
                     .collect();
-                println!("{}", words.join(" "));
+                text = words.join(" ") + "\n";
             }
-            Ok(answer)
+            Ok((text, answer))
         }
         "write" => {
-            let values: Result<Vec<i64>, _> = rest.iter().map(|word| word.parse()).collect();
-            let values = values.map_err(|error| format!("{error}: {}", rest.join(" ")))?;
+            let value = |word: &String| word.parse().map_err(|error| format!("{error}: {word:?}"));
+            let values = rest.iter().map(value).collect::<Result<Vec<i64>, _>>()?;
             let mut output = vec![0; OCTETS];
             let answer = write(&table, &values, &mut output);
             if let Answer::Accepted { octets: count, .. } = answer {
-                println!("{}", hex(&output[..count as usize]));
+                text = hex(&output[..count as usize]) + "\n";
             }
-            Ok(answer)
+            Ok((text, answer))
         }
         "array" => {
             for octets in table.chunks(16) {
@@ -226,32 +292,43 @@ fn run(words: &[String]) -> Result<Answer, String> {
                     .iter()
                     .map(|octet| format!("{octet:#04X},"))
                     .collect();
-                println!("{}", words.join(" "));
+                text += &(words.join(" ") + "\n");
             }
-            Ok(verdict)
+            Ok((text, verdict))
         }
-        verb => Err(format!("no read, write or array: {verb}")),
+        verb => Err(format!("no {verb:?}: {USAGE}")),
+    }
+}
+
+/// What is said of an answer, after what it gave.
+fn told(answer: Answer) -> String {
+    match answer {
+        Answer::PASSED => "passed".to_string(),
+        Answer::Accepted {
+            values,
+            bits,
+            octets,
+        } => format!("accepted: {values} values, {bits} bits, {octets} octets"),
+        Answer::Refused { number, place } => Refusal { number, place }.to_string(),
     }
 }
 
 fn main() -> ExitCode {
-    let words: Vec<String> = env::args().skip(1).collect();
-    match run(&words) {
-        Ok(Answer::Accepted {
-            values,
-            bits,
-            octets,
-        }) => {
-            eprintln!("accepted: {values} values, {bits} bits, {octets} octets");
-            ExitCode::SUCCESS
-        }
-        Ok(Answer::Refused { number, place }) => {
-            eprintln!("refused {number} at {place}: {}", Refusal::meaning(number));
-            ExitCode::FAILURE
-        }
-        Err(fault) => {
-            eprintln!("table: {fault}");
-            ExitCode::from(2)
-        }
-    }
+    let words: Result<Vec<String>, OsString> =
+        env::args_os().skip(1).map(OsString::into_string).collect();
+    let done = words
+        .map_err(|word| format!("no text: {word:?}"))
+        .and_then(|words| run(&words))
+        .and_then(|(text, answer)| {
+            let mut out = io::stdout().lock();
+            let written = out.write_all(text.as_bytes()).and_then(|()| out.flush());
+            written.map_err(|error| error.to_string())?;
+            Ok(answer)
+        });
+    let (said, code) = match done {
+        Ok(answer) => (told(answer), u8::from(answer.refusal().is_some())),
+        Err(fault) => (format!("table: {fault}"), 2),
+    };
+    let _ = writeln!(io::stderr(), "{said}"); // where nobody takes it, nothing is left to do
+    ExitCode::from(code)
 }

@@ -17,31 +17,32 @@ enum {
     TEYOLXAN_VALUES, /* how many values were read */
     TEYOLXAN_BITS,   /* how many bits the root took */
     TEYOLXAN_OCTETS, /* how many octets were written */
-    TEYOLXAN_KEPT    /* 0 */
+    TEYOLXAN_KEPT,   /* 0 */
+    TEYOLXAN_COUNT   /* how many numbers these are: 6 */
 };
 
 /* The refusals' numbers. For 20 to 26 the place is the row's offset in the table, in octets. */
 enum {
     TEYOLXAN_REFUSED_TABLE_SIZE = 1,
-    TEYOLXAN_REFUSED_SHORT = 2,
-    TEYOLXAN_REFUSED_SPAN = 3,
-    TEYOLXAN_REFUSED_BRANCH = 4,
-    TEYOLXAN_REFUSED_LENGTH_FORM = 5,
+    TEYOLXAN_REFUSED_MESSAGE_ENDS = 2,
+    TEYOLXAN_REFUSED_ABOVE_SPAN = 3,
+    TEYOLXAN_REFUSED_NO_BRANCH = 4,
+    TEYOLXAN_REFUSED_BAD_LENGTH = 5,
     TEYOLXAN_REFUSED_ABOVE_MOST = 6,
-    TEYOLXAN_REFUSED_VARIABLE_FORM = 7,
+    TEYOLXAN_REFUSED_BAD_VARIABLE = 7,
     TEYOLXAN_REFUSED_NO_ROOM = 8,
-    TEYOLXAN_REFUSED_LEFT = 9,
-    TEYOLXAN_REFUSED_VERSION = 10,
-    TEYOLXAN_REFUSED_SUBTYPE = 11,
-    TEYOLXAN_REFUSED_VALUE = 12,
-    TEYOLXAN_REFUSED_MESSAGE_SIZE = 13,
-    TEYOLXAN_REFUSED_ROW_END = 20,
-    TEYOLXAN_REFUSED_ROW_KIND = 21,
-    TEYOLXAN_REFUSED_ROW_LENGTH = 22,
-    TEYOLXAN_REFUSED_ROW_NUMBER = 23,
-    TEYOLXAN_REFUSED_ROW_REFERENCE = 24,
-    TEYOLXAN_REFUSED_ROW_BRANCH = 25,
-    TEYOLXAN_REFUSED_ROW_DEPTH = 26
+    TEYOLXAN_REFUSED_NOT_PADDING = 9,
+    TEYOLXAN_REFUSED_WRONG_VERSION = 10,
+    TEYOLXAN_REFUSED_WRONG_SUBTYPE = 11,
+    TEYOLXAN_REFUSED_WRONG_VALUE = 12,
+    TEYOLXAN_REFUSED_TOO_LONG = 13,
+    TEYOLXAN_REFUSED_ROW_PAST_END = 20,
+    TEYOLXAN_REFUSED_UNKNOWN_KIND = 21,
+    TEYOLXAN_REFUSED_WRONG_ROW_LENGTH = 22,
+    TEYOLXAN_REFUSED_WRONG_ROW_NUMBER = 23,
+    TEYOLXAN_REFUSED_WRONG_REFERENCE = 24,
+    TEYOLXAN_REFUSED_ONLY_RESERVED = 25,
+    TEYOLXAN_REFUSED_TOO_DEEP = 26
 };
 
 void teyolxan_check(const uint8_t *table, size_t table_length, uint64_t numbers[6]);
@@ -54,49 +55,56 @@ void teyolxan_write(const uint8_t *table, size_t table_length,
                     const uint8_t *values, size_t values_length,
                     uint8_t *output, size_t output_length, uint64_t numbers[6]);
 
+/* Whether a refusal's number tells what is wrong with the table: 1, and 20 to 26. Every call under that table gives it. */
+static inline int teyolxan_is_of_table(uint64_t number)
+{
+    return number == TEYOLXAN_REFUSED_TABLE_SIZE
+           || (number >= TEYOLXAN_REFUSED_ROW_PAST_END && number <= TEYOLXAN_REFUSED_TOO_DEEP);
+}
+
 /* What a refusal's number means, in one sentence. */
 static inline const char *teyolxan_meaning(uint64_t number)
 {
     switch (number) {
     case TEYOLXAN_REFUSED_TABLE_SIZE:
         return "the table has fewer than 4 octets, or more than 4,096";
-    case TEYOLXAN_REFUSED_SHORT:
+    case TEYOLXAN_REFUSED_MESSAGE_ENDS:
         return "the message ends inside an item, or is empty";
-    case TEYOLXAN_REFUSED_SPAN:
-        return "a number is above its span";
-    case TEYOLXAN_REFUSED_BRANCH:
+    case TEYOLXAN_REFUSED_ABOVE_SPAN:
+        return "a number's offset is above its span";
+    case TEYOLXAN_REFUSED_NO_BRANCH:
         return "an index is too high, or its branch is reserved";
-    case TEYOLXAN_REFUSED_LENGTH_FORM:
+    case TEYOLXAN_REFUSED_BAD_LENGTH:
         return "a length has a bad form";
     case TEYOLXAN_REFUSED_ABOVE_MOST:
         return "a count or length is above its limit";
-    case TEYOLXAN_REFUSED_VARIABLE_FORM:
+    case TEYOLXAN_REFUSED_BAD_VARIABLE:
         return "a variable number starts with 1111";
     case TEYOLXAN_REFUSED_NO_ROOM:
-        return "there is no place for the next value, or for its bits";
-    case TEYOLXAN_REFUSED_LEFT:
+        return "there is no room for the next value, or for the next bits";
+    case TEYOLXAN_REFUSED_NOT_PADDING:
         return "the padding is not zero, or octets are left";
-    case TEYOLXAN_REFUSED_VERSION:
+    case TEYOLXAN_REFUSED_WRONG_VERSION:
         return "the version of the LM is not 3";
-    case TEYOLXAN_REFUSED_SUBTYPE:
+    case TEYOLXAN_REFUSED_WRONG_SUBTYPE:
         return "the subtype of the LM is not 0, 1 or 2";
-    case TEYOLXAN_REFUSED_VALUE:
+    case TEYOLXAN_REFUSED_WRONG_VALUE:
         return "a value is missing, outside its row, or left over";
-    case TEYOLXAN_REFUSED_MESSAGE_SIZE:
+    case TEYOLXAN_REFUSED_TOO_LONG:
         return "the message has more than 65,535 octets";
-    case TEYOLXAN_REFUSED_ROW_END:
+    case TEYOLXAN_REFUSED_ROW_PAST_END:
         return "fewer than 4 octets are left for the row, or its length runs past the table's end";
-    case TEYOLXAN_REFUSED_ROW_KIND:
+    case TEYOLXAN_REFUSED_UNKNOWN_KIND:
         return "the row's kind is unknown";
-    case TEYOLXAN_REFUSED_ROW_LENGTH:
+    case TEYOLXAN_REFUSED_WRONG_ROW_LENGTH:
         return "the row's length is not the one that its kind asks for";
-    case TEYOLXAN_REFUSED_ROW_NUMBER:
+    case TEYOLXAN_REFUSED_WRONG_ROW_NUMBER:
         return "a count, limit, m or flag of the row is out of bounds";
-    case TEYOLXAN_REFUSED_ROW_REFERENCE:
+    case TEYOLXAN_REFUSED_WRONG_REFERENCE:
         return "a reference of the row is not the first octet of an earlier row";
-    case TEYOLXAN_REFUSED_ROW_BRANCH:
+    case TEYOLXAN_REFUSED_ONLY_RESERVED:
         return "every branch of the choice is reserved";
-    case TEYOLXAN_REFUSED_ROW_DEPTH:
+    case TEYOLXAN_REFUSED_TOO_DEEP:
         return "the row is deeper than 32";
     default:
         return "no refusal has this number";

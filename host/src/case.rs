@@ -119,11 +119,7 @@ impl Outcome {
     /// The refusal that this outcome is, if it is one.
     pub fn refusal(&self) -> Option<Refusal> {
         match self {
-            Outcome::Checked(Answer::Refused { number, place })
-            | Outcome::Filled(Answer::Refused { number, place }, _) => Some(Refusal {
-                number: *number,
-                place: *place,
-            }),
+            Outcome::Checked(answer) | Outcome::Filled(answer, _) => answer.refusal(),
             Outcome::UserData(Err(refusal)) => Some(*refusal),
             _ => None,
         }

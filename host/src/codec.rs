@@ -4,6 +4,9 @@
 //! paragraph): values are eight octets each, little-endian, two's complement, and octets after the
 //! last whole eight are ignored in a list and zeroed in an output.
 
+use std::error::Error;
+use std::fmt;
+
 /// A refusal: its number in document 01, as ticket 1 of document 02 splits it, and its place.
 #[derive(Clone, Copy, Debug, PartialEq, Eq)]
 pub struct Refusal {
@@ -46,26 +49,26 @@ macro_rules! refusals {
 
 refusals! {
     TABLE_SIZE = 1, "the table has fewer than 4 octets, or more than 4,096";
-    SHORT = 2, "the message ends inside an item, or is empty";
-    SPAN = 3, "a number is above its span";
-    BRANCH = 4, "an index is too high, or its branch is reserved";
-    LENGTH_FORM = 5, "a length has a bad form";
+    MESSAGE_ENDS = 2, "the message ends inside an item, or is empty";
+    ABOVE_SPAN = 3, "a number's offset is above its span";
+    NO_BRANCH = 4, "an index is too high, or its branch is reserved";
+    BAD_LENGTH = 5, "a length has a bad form";
     /// For an opened message: more than 32 bits are asked for.
     ABOVE_MOST = 6, "a count or length is above its limit";
-    VARIABLE_FORM = 7, "a variable number starts with 1111";
-    NO_ROOM = 8, "there is no place for the next value, or for its bits";
-    LEFT = 9, "the padding is not zero, or octets are left";
-    VERSION = 10, "the version of the LM is not 3";
-    SUBTYPE = 11, "the subtype of the LM is not 0, 1 or 2";
-    VALUE = 12, "a value is missing, outside its row, or left over";
-    MESSAGE_SIZE = 13, "the message has more than 65,535 octets";
-    ROW_END = 20, "fewer than 4 octets are left for the row, or its length runs past the table's end";
-    ROW_KIND = 21, "the row's kind is unknown";
-    ROW_LENGTH = 22, "the row's length is not the one that its kind asks for";
-    ROW_NUMBER = 23, "a count, limit, m or flag of the row is out of bounds";
-    ROW_REFERENCE = 24, "a reference of the row is not the first octet of an earlier row";
-    ROW_BRANCH = 25, "every branch of the choice is reserved";
-    ROW_DEPTH = 26, "the row is deeper than 32";
+    BAD_VARIABLE = 7, "a variable number starts with 1111";
+    NO_ROOM = 8, "there is no room for the next value, or for the next bits";
+    NOT_PADDING = 9, "the padding is not zero, or octets are left";
+    WRONG_VERSION = 10, "the version of the LM is not 3";
+    WRONG_SUBTYPE = 11, "the subtype of the LM is not 0, 1 or 2";
+    WRONG_VALUE = 12, "a value is missing, outside its row, or left over";
+    TOO_LONG = 13, "the message has more than 65,535 octets";
+    ROW_PAST_END = 20, "fewer than 4 octets are left for the row, or its length runs past the table's end";
+    UNKNOWN_KIND = 21, "the row's kind is unknown";
+    WRONG_ROW_LENGTH = 22, "the row's length is not the one that its kind asks for";
+    WRONG_ROW_NUMBER = 23, "a count, limit, m or flag of the row is out of bounds";
+    WRONG_REFERENCE = 24, "a reference of the row is not the first octet of an earlier row";
+    ONLY_RESERVED = 25, "every branch of the choice is reserved";
+    TOO_DEEP = 26, "the row is deeper than 32";
 }
 
 impl Refusal {
@@ -75,7 +78,7 @@ impl Refusal {
     /// Whether the number tells what is wrong with a table: every call under the table gives it.
     pub const fn is_of_table(number: u32) -> bool {
         number == Refusal::TABLE_SIZE
-            || (number >= Refusal::ROW_END && number <= Refusal::ROW_DEPTH)
+            || (number >= Refusal::ROW_PAST_END && number <= Refusal::TOO_DEEP)
     }
 
     pub fn new(number: u32, place: usize) -> Refusal {
@@ -85,6 +88,16 @@ impl Refusal {
         }
     }
 }
+
+/// As in "refused 24 at 98: a reference of the row is not the first octet of an earlier row".
+impl fmt::Display for Refusal {
+    fn fmt(&self, text: &mut fmt::Formatter) -> fmt::Result {
+        let meaning = Refusal::meaning(self.number);
+        write!(text, "refused {} at {}: {meaning}", self.number, self.place)
+    }
+}
+
+impl Error for Refusal {}
 
 /// The answer of a check, a reading or a writing. A count that the call does not tell is 0.
 #[derive(Clone, Copy, Debug, PartialEq, Eq)]
@@ -108,6 +121,14 @@ impl Answer {
         bits: 0,
         octets: 0,
     };
+
+    /// The refusal, where there is one.
+    pub const fn refusal(self) -> Option<Refusal> {
+        match self {
+            Answer::Accepted { .. } => None,
+            Answer::Refused { number, place } => Some(Refusal { number, place }),
+        }
+    }
 }
 
 impl From<Refusal> for Answer {

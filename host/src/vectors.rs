@@ -28,6 +28,12 @@ use std::fmt::Write as _;
 use crate::case::{Case, Outcome, Table};
 use crate::codec::{value_octets, Answer, Bits, Call, Codec, Element, Part, Refusal, Taken};
 
+/// The case files.
+pub const BASE: &str = include_str!("../vectors/base.txt");
+pub const EDGES: &str = include_str!("../vectors/edges.txt");
+pub const STAGE01: &str = include_str!("../vectors/stage01.txt");
+pub const FILES: [&str; 3] = [BASE, EDGES, STAGE01];
+
 /// A call with the outcome that it has to have.
 #[derive(Clone, Debug)]
 pub struct Vector {
@@ -264,7 +270,7 @@ fn parse_line(words: &str, tail: usize) -> Result<(Case, Outcome), String> {
     };
     cells.end()?;
     let refusal = parsed.1.refusal();
-    if refusal.is_some_and(|refusal| refusal.number >= Refusal::ROW_END) && !ticket_1 {
+    if refusal.is_some_and(|refusal| refusal.number >= Refusal::ROW_PAST_END) && !ticket_1 {
         return Err("document 01 has no such refusal".to_string());
     }
     Ok(parsed)

@@ -11,11 +11,7 @@ use teyolxan_host::compare::{compare, compare_one, Stats};
 use teyolxan_host::guarded::Guarded;
 use teyolxan_host::reference::REFERENCE;
 use teyolxan_host::settings;
-use teyolxan_host::vectors::{parse, run, Vector};
-
-const BASE: &str = include_str!("../vectors/base.txt");
-const EDGES: &str = include_str!("../vectors/edges.txt");
-const STAGE01: &str = include_str!("../vectors/stage01.txt");
+use teyolxan_host::vectors::{parse, run, Vector, BASE, EDGES, FILES, STAGE01};
 
 /// Cases for the libraries against the reference; more where the build is optimised.
 const CASES: u64 = if cfg!(debug_assertions) {
@@ -120,7 +116,7 @@ fn rows_of_any_numbers_are_told_alike() {
         }
     }
     println!("{stats}");
-    for number in Refusal::ROW_END..=Refusal::ROW_BRANCH {
+    for number in Refusal::ROW_PAST_END..=Refusal::ONLY_RESERVED {
         assert!(
             stats.refused[number as usize] > 0,
             "refusal {number} is not met"
@@ -130,7 +126,7 @@ fn rows_of_any_numbers_are_told_alike() {
 
 #[test]
 fn slices_stand_anywhere_and_nothing_beside_them_is_touched() {
-    let vectors = vectors(&[BASE, EDGES, STAGE01].concat());
+    let vectors = vectors(&FILES.concat());
     let archive = Archive(Guarded::new());
     for _ in 0..8 {
         passes(&archive, &vectors);
@@ -177,7 +173,7 @@ fn lists_are_lent_in_place() {
     }
     let mut values = [i64::MAX; 3];
     let refused = Answer::Refused {
-        number: Refusal::LEFT,
+        number: Refusal::NOT_PADDING,
         place: 8,
     };
     assert_eq!(api::read(&table, &[0, 0], &mut values), refused);
@@ -194,7 +190,7 @@ fn bits_are_taken_beyond_the_end_where_there_are_none() {
             place: place as u64,
         };
         assert_eq!(ARCHIVE.take_at(&message, place, 0), Ok(none));
-        let short = Refusal::new(Refusal::SHORT, place);
+        let short = Refusal::new(Refusal::MESSAGE_ENDS, place);
         assert_eq!(ARCHIVE.take_at(&message, place, 1), Err(short));
         let wide = Refusal::new(Refusal::ABOVE_MOST, place);
         assert_eq!(ARCHIVE.take_at(&message, place, 33), Err(wide));

@@ -7,11 +7,7 @@ use std::process::{Command, Stdio};
 use std::thread;
 
 use teyolxan_host::codec::{Call, Codec};
-use teyolxan_host::vectors::{parse, run};
-
-const BASE: &str = include_str!("../vectors/base.txt");
-const EDGES: &str = include_str!("../vectors/edges.txt");
-const STAGE01: &str = include_str!("../vectors/stage01.txt");
+use teyolxan_host::vectors::{parse, run, BASE, EDGES, STAGE01};
 
 fn root() -> PathBuf {
     Path::new(env!("CARGO_MANIFEST_DIR"))

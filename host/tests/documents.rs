@@ -123,7 +123,11 @@ fn refusals_are_named_and_explained_alike() {
     }
     // No others: each is declared and tested, and has a sentence of its own.
     let count = Refusal::ALL.len();
-    assert_eq!(HEADER.matches("TEYOLXAN_REFUSED_").count(), 2 * count);
+    let cases = HEADER.matches("    case TEYOLXAN_REFUSED_").count();
+    assert_eq!(
+        (cases, HEADER.matches("\n    TEYOLXAN_REFUSED_").count()),
+        (count, count)
+    );
     let meanings: BTreeSet<_> = Refusal::ALL
         .iter()
         .map(|&at| Refusal::meaning(at))
@@ -131,6 +135,21 @@ fn refusals_are_named_and_explained_alike() {
     assert_eq!(meanings.len(), count);
     assert!(!meanings.contains(Refusal::meaning(0)));
     assert!(Refusal::ALL.is_sorted_by(|left, right| left < right));
+}
+
+/// The names are those that the library's own sources have.
+#[test]
+fn refusals_are_named_as_in_the_library() {
+    const SOURCE: &str = include_str!("../../crates/answer/src/lib.rt");
+    let constants: Vec<_> = SOURCE
+        .lines()
+        .filter_map(|line| line.trim().strip_prefix("pub const ")?.strip_suffix(';'))
+        .collect();
+    let named = |&number: &u32| {
+        let name = Refusal::name(number).expect("a name");
+        format!("{name}: u32 = {number}")
+    };
+    assert!(Refusal::ALL.iter().map(named).eq(constants));
 }
 
 /// The header's sentences, as a program prints them that calls nothing else; in C++ too.
@@ -142,14 +161,17 @@ fn the_header_gives_the_sentences_of_rust() {
 int main(void)
 {
     for (uint64_t number = 0; number < 100; number++)
-        puts(teyolxan_meaning(number));
-    puts(teyolxan_meaning(UINT64_MAX));
+        printf("%d %s\n", teyolxan_is_of_table(number), teyolxan_meaning(number));
+    printf("%d %s\n", teyolxan_is_of_table(UINT64_MAX), teyolxan_meaning(UINT64_MAX));
     return 0;
 }
 "#;
     let numbers = (0..100).chain([u32::MAX]);
     let expected: String = numbers
-        .map(|number| format!("{}\n", Refusal::meaning(number)))
+        .map(|number| {
+            let of_table = u8::from(Refusal::is_of_table(number));
+            format!("{of_table} {}\n", Refusal::meaning(number))
+        })
         .collect();
     let folder = PathBuf::from(env!("CARGO_TARGET_TMPDIR"));
     fs::create_dir_all(&folder).expect("a folder for the programs");

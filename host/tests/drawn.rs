@@ -90,19 +90,19 @@ fn is_refused_where_it_is_wrong(random: &mut Random, table: &[u8], drawn: &Drawn
     values[at] = random.pick(&[bounds.0 - 1, bounds.1 + 1, i64::MIN, i64::MAX]);
     assert_eq!(
         write(table, &values, message.len()),
-        (refused(Refusal::VALUE, at), vec![0; message.len()])
+        (refused(Refusal::WRONG_VALUE, at), vec![0; message.len()])
     );
     values.truncate(at);
     assert_eq!(
         write(table, &values, message.len()),
-        (refused(Refusal::VALUE, at), vec![0; message.len()])
+        (refused(Refusal::WRONG_VALUE, at), vec![0; message.len()])
     );
     let mut values = drawn.values();
     values.push(0);
     assert_eq!(
         write(table, &values, message.len()),
         (
-            refused(Refusal::VALUE, values.len() - 1),
+            refused(Refusal::WRONG_VALUE, values.len() - 1),
             vec![0; message.len()]
         )
     );
@@ -119,7 +119,7 @@ fn is_short_where_it_is_cut(random: &mut Random, table: &[u8], drawn: &Drawn) {
     let room = drawn.items.len();
     assert_eq!(
         read(table, &message[..size], room),
-        (refused(Refusal::SHORT, place), vec![0; room])
+        (refused(Refusal::MESSAGE_ENDS, place), vec![0; room])
     );
 }
 
@@ -158,8 +158,8 @@ fn lms_go_both_ways_by_name() {
             write_lm(&values, message.len()),
         );
         if values[2] != 3 {
-            assert_eq!(read_by_name.0, refused(Refusal::VERSION, 5));
-            assert_eq!(written_by_name.0, refused(Refusal::VERSION, 2));
+            assert_eq!(read_by_name.0, refused(Refusal::WRONG_VERSION, 5));
+            assert_eq!(written_by_name.0, refused(Refusal::WRONG_VERSION, 2));
             continue;
         }
         let table = &lm_table().octets;
@@ -199,7 +199,7 @@ fn large_lists_are_taken_up_to_the_limit() {
         let room = drawn.items.len();
         assert_eq!(
             read(&table, &drawn.message(), room),
-            (refused(Refusal::MESSAGE_SIZE, 0), vec![0; room])
+            (refused(Refusal::TOO_LONG, 0), vec![0; room])
         );
         let mut bits = 0;
         let index = drawn.items.iter().position(|item| {

@@ -274,21 +274,21 @@ fn what_the_tables_refuse() {
     let [lm, sam, srm] = kinds();
     let refused = |number, place| (Answer::Refused { number, place }, vec![0; 50]);
     for (kind, message, number, place) in [
-        (&lm, &[0x04][..], Refusal::VERSION, 5),
-        (&lm, &[0x33], Refusal::SUBTYPE, 0),
-        (&sam, &[], Refusal::SHORT, 0),
-        (&sam, &[0x30], Refusal::SHORT, 8),
+        (&lm, &[0x04][..], Refusal::WRONG_VERSION, 5),
+        (&lm, &[0x33], Refusal::WRONG_SUBTYPE, 0),
+        (&sam, &[], Refusal::MESSAGE_ENDS, 0),
+        (&sam, &[0x30], Refusal::MESSAGE_ENDS, 8),
         (&sam, &[0x34, 0x00, 0x20], Refusal::ABOVE_MOST, 16), // 32 services
         (&sam, &[0x32, 0x00, 0x20], Refusal::ABOVE_MOST, 16), // 32 channels
         (&sam, &[0x38, 0x00, 0x81, 0x00], Refusal::ABOVE_MOST, 16), // 256 extensions
-        (&sam, &[0x38, 0x00, 0x80, 0x01], Refusal::LENGTH_FORM, 16),
-        (&sam, &[0x34, 0x00, 0x01, 0xF0], Refusal::VARIABLE_FORM, 24),
-        (&sam, &[0x30, 0x12, 0x00], Refusal::LEFT, 16),
-        (&srm, &[], Refusal::SHORT, 0),
-        (&srm, &[0x31], Refusal::SHORT, 8),
-        (&srm, &[0x31, 0xFF], Refusal::LENGTH_FORM, 8),
-        (&srm, &[0x31, 0x01, 0xF8], Refusal::VARIABLE_FORM, 16),
-        (&srm, &[0x30, 0x00], Refusal::LEFT, 8),
+        (&sam, &[0x38, 0x00, 0x80, 0x01], Refusal::BAD_LENGTH, 16),
+        (&sam, &[0x34, 0x00, 0x01, 0xF0], Refusal::BAD_VARIABLE, 24),
+        (&sam, &[0x30, 0x12, 0x00], Refusal::NOT_PADDING, 16),
+        (&srm, &[], Refusal::MESSAGE_ENDS, 0),
+        (&srm, &[0x31], Refusal::MESSAGE_ENDS, 8),
+        (&srm, &[0x31, 0xFF], Refusal::BAD_LENGTH, 8),
+        (&srm, &[0x31, 0x01, 0xF8], Refusal::BAD_VARIABLE, 16),
+        (&srm, &[0x30, 0x00], Refusal::NOT_PADDING, 8),
     ] {
         assert_eq!(kind.read(message, 50), refused(number, place));
     }
@@ -296,7 +296,7 @@ fn what_the_tables_refuse() {
     for kind in [lm, sam, srm] {
         let (answer, _) = kind.read(&[0x33; 65_536], 4);
         let too_long = Answer::Refused {
-            number: Refusal::MESSAGE_SIZE,
+            number: Refusal::TOO_LONG,
             place: 0,
         };
         assert_eq!(answer, too_long);

@@ -6,7 +6,7 @@ use std::fs;
 use std::path::{Path, PathBuf};
 use std::process::Command;
 
-use teyolxan_host::api::{Answer, Refusal};
+use teyolxan_host::api::Refusal;
 use teyolxan_host::random::{nearly_passing_table, Random};
 use teyolxan_host::reference;
 
@@ -28,11 +28,28 @@ fn program() -> PathBuf {
     program
 }
 
-/// What it prints of a table in a file, and then says of its own.
-fn printed(file: &Path, words: &[&str]) -> String {
+/// What it prints of a table in a file, what it says of the answer, and its exit code.
+fn run(file: &Path, words: &[&str]) -> (String, String, Option<i32>) {
     let mut command = Command::new(program());
     let output = command.arg(file).args(words).output().expect("it runs");
-    String::from_utf8([output.stdout, output.stderr].concat()).expect("a text")
+    let [printed, said] =
+        [output.stdout, output.stderr].map(|text| String::from_utf8(text).expect("a text"));
+    (printed, said, output.status.code())
+}
+
+/// All of what it prints and says.
+fn printed(file: &Path, words: &[&str]) -> String {
+    let (printed, said, _) = run(file, words);
+    printed + &said
+}
+
+/// A file of this name, with this in it.
+fn written(name: &str, text: impl AsRef<[u8]>) -> PathBuf {
+    let folder = PathBuf::from(env!("CARGO_TARGET_TMPDIR"));
+    fs::create_dir_all(&folder).expect("a folder for the tables");
+    let file = folder.join(name);
+    fs::write(&file, text).expect("a table is written");
+    file
 }
 
 fn notice() -> PathBuf {
@@ -73,7 +90,7 @@ fn slips() -> Vec<Slip> {
         octets: "0C 00 01",
         number: Refusal::TABLE_SIZE,
         place: 0,
-        listed: "3 octets",
+        listed: "octets: 3",
     };
     // Each record is around the row before it: the notice at 98, then 128, 138 and so on.
     let before = [98].into_iter().chain((128..418).step_by(10));
@@ -84,7 +101,7 @@ fn slips() -> Vec<Slip> {
     let deep = Slip {
         table: NOTICE.to_string() + &before.map(record).collect::<String>(),
         octets: "0A 00 05 00 01 00 62 00 00 00",
-        number: Refusal::ROW_DEPTH,
+        number: Refusal::TOO_DEEP,
         place: 418,
         listed: "record of 1: rows 408",
     };
@@ -93,43 +110,43 @@ fn slips() -> Vec<Slip> {
         changed(
             "0C 00 01 00 D8 FF FF FF 7D 00 00 00",
             "0C 00 01 00 D8 FF FF 7D 00 00 00",
-            (Refusal::ROW_END, 24),
-            "length 512, and 103 octets are left",
+            (Refusal::ROW_PAST_END, 24),
+            "length 512, octets left: 103",
         ),
         changed(
             "06 00 07 00 14 00",
             "06 00 00 07 14 00",
-            (Refusal::ROW_KIND, 72),
+            (Refusal::UNKNOWN_KIND, 72),
             "kind 1792",
         ),
         changed(
             "0C 00 06 00 03 00 1C 00 FF FF 28 00",
             "0E 00 06 00 03 00 1C 00 FF FF 28 00",
-            (Refusal::ROW_LENGTH, 52),
-            "choice, length 14, m 3",
+            (Refusal::WRONG_ROW_LENGTH, 52),
+            "choice, length 14, m 3: with this m it has 12",
         ),
         changed(
             "08 00 04 00 04 00 4E 00",
             "08 00 04 00 00 00 4E 00",
-            (Refusal::ROW_NUMBER, 90),
-            "counted run, most 0, of row 78",
+            (Refusal::WRONG_ROW_NUMBER, 90),
+            "counted run, most 0, of row 78: 1 to 16383 are allowed",
         ),
         changed(
             "48 00 01 00",
             "48 00 02 00",
-            (Refusal::ROW_NUMBER, 98),
-            "record of 6: rows 24, 12, 52, 64, 72 flag 2, 90",
+            (Refusal::WRONG_ROW_NUMBER, 98),
+            "record of 6: rows 24, 12, 52, 64, 72 flag 2, 90: a flag is 0 or 1",
         ),
         changed(
             "48 00 01 00",
             "4A 00 01 00",
-            (Refusal::ROW_REFERENCE, 98),
-            "record of 6: rows 24, 12, 52, 64, 74 optional, 90",
+            (Refusal::WRONG_REFERENCE, 98),
+            "record of 6: rows 24, 12, 52, 64, 74 optional, 90: no row before it begins at 74",
         ),
         changed(
             "0C 00 06 00 03 00 1C 00 FF FF 28 00",
             "0C 00 06 00 03 00 FF FF FF FF FF FF",
-            (Refusal::ROW_BRANCH, 52),
+            (Refusal::ONLY_RESERVED, 52),
             "choice of 3: no row",
         ),
         deep,
@@ -138,17 +155,11 @@ fn slips() -> Vec<Slip> {
 
 #[test]
 fn slips_are_told_as_the_document_says() {
-    let folder = PathBuf::from(env!("CARGO_TARGET_TMPDIR"));
-    fs::create_dir_all(&folder).expect("a folder for the tables");
     let mut numbers = BTreeSet::new();
     for (index, slip) in slips().into_iter().enumerate() {
         let (number, place) = (slip.number, slip.place);
-        let file = folder.join(format!("slip{index}.txt"));
-        fs::write(&file, slip.table).expect("a table is written");
-        let told = format!(
-            "refused {number} at {place}: {}\n",
-            Refusal::meaning(number)
-        );
+        let file = written(&format!("slip{index}.txt"), slip.table);
+        let told = format!("{}\n", Refusal { number, place });
         let text = printed(&file, &[]);
         let end = format!("       {}\n{told}", slip.listed);
         assert!(text.ends_with(&end), "{end}: {text}");
@@ -178,37 +189,78 @@ fn the_slip_of_the_document_is_listed() {
         .nth(1)
         .and_then(|rest| rest.split("```").next())
         .expect("a block of text");
-    let file = PathBuf::from(env!("CARGO_TARGET_TMPDIR")).join("slip.txt");
-    fs::create_dir_all(file.parent().expect("a folder")).expect("a folder for the table");
     let table = NOTICE.replace("48 00 01 00", "4A 00 01 00");
-    fs::write(&file, table).expect("a table is written");
-    let text = printed(&file, &[]);
+    let text = printed(&written("slip.txt", table), &[]);
     assert!(text.ends_with(block), "{text}");
 }
 
-/// Whatever the octets are, the rows are listed up to the one that is refused, and the program ends
-/// as it should.
+/// Whatever the octets are, the rows are listed up to the one that is refused, each with its offset,
+/// and the program ends as it should.
 #[test]
 fn any_octets_are_listed() {
-    let folder = PathBuf::from(env!("CARGO_TARGET_TMPDIR"));
-    fs::create_dir_all(&folder).expect("a folder for the tables");
-    let file = folder.join("any.txt");
     for number in 0..DRAWS {
         let table = nearly_passing_table(&mut Random::for_case(11, number));
         let octets: String = table.iter().map(|octet| format!("{octet:02X}")).collect();
-        fs::write(&file, &octets).expect("a table is written");
-        let told = match reference::check(&table) {
-            Answer::Accepted { .. } => "accepted: 0 values, 0 bits, 0 octets\n".to_string(),
-            Answer::Refused { number, place } => {
-                format!(
-                    "refused {number} at {place}: {}\n",
-                    Refusal::meaning(number)
-                )
-            }
-        };
-        let text = printed(&file, &[]);
-        assert!(text.ends_with(&told), "{octets}: {text}");
+        let (list, said, code) = run(&written("any.txt", &octets), &[]);
+        let refusal = reference::check(&table).refusal();
+        let told = refusal.map_or("passed\n".to_string(), |refusal| format!("{refusal}\n"));
+        assert_eq!(said, told, "{octets}");
+        assert_eq!(code, Some(i32::from(refusal.is_some())), "{octets}");
+        // The offsets that stand in front, and those of the rows up to the end or the fault.
+        let listed: Vec<u64> = list
+            .lines()
+            .filter_map(|line| line.get(..5)?.trim().parse().ok())
+            .collect();
+        let end = refusal.map_or(table.len() as u64, |refusal| refusal.place);
+        let mut rows = Vec::new();
+        let mut at = 0;
+        while at < end {
+            rows.push(at);
+            let length = &table[at as usize..][..2];
+            at += u64::from(u16::from_le_bytes([length[0], length[1]]));
+        }
+        rows.extend(
+            refusal
+                .filter(|refusal| refusal.number != Refusal::TABLE_SIZE)
+                .map(|_| end),
+        );
+        assert_eq!(listed, rows, "{octets}: {list}");
     }
+}
+
+/// What is no table and no table's octets ends with a word to whoever runs it.
+#[test]
+fn what_is_no_table_is_told() {
+    let wrong = [
+        (
+            written("lone.txt", "4 00 2 00"),
+            "line 1: octets are two hex digits each, not \"4\"",
+        ),
+        (
+            written("sign.txt", "04 00\n+2 00 # x"),
+            "line 2: octets are two hex digits each, not \"+2\"",
+        ),
+        (
+            written("no-text.txt", [0xFF]),
+            "stream did not contain valid UTF-8",
+        ),
+        (PathBuf::from(env!("CARGO_TARGET_TMPDIR")), "Is a directory"),
+        (PathBuf::from("no such file"), "No such file"),
+    ];
+    for (file, told) in wrong {
+        let (list, said, code) = run(&file, &[]);
+        assert_eq!((list.as_str(), code), ("", Some(2)), "{said}");
+        assert!(
+            said.starts_with("table: ") && said.contains(told),
+            "{told}: {said}"
+        );
+    }
+    for words in [&["erase"][..], &["read", "0"], &["write", "one"]] {
+        let (_, said, code) = run(&notice(), words);
+        assert_eq!(code, Some(2), "{said}");
+    }
+    let bare = Command::new(program()).output().expect("it runs");
+    assert!(String::from_utf8_lossy(&bare.stderr).starts_with("table: table TABLE"));
 }
 
 /// The document's message and list, there and back.

@@ -3,11 +3,7 @@
 use teyolxan_host::codec::Call;
 use teyolxan_host::mutants;
 use teyolxan_host::reference::REFERENCE;
-use teyolxan_host::vectors::{parse, run};
-
-const BASE: &str = include_str!("../vectors/base.txt");
-const EDGES: &str = include_str!("../vectors/edges.txt");
-const STAGE01: &str = include_str!("../vectors/stage01.txt");
+use teyolxan_host::vectors::{parse, run, BASE, EDGES, STAGE01};
 
 /// Runs a case file and asks that every case has its outcome.
 fn passes(text: &str) -> usize {

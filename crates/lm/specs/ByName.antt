@@ -1,7 +1,7 @@
 -- Reading and writing an LM by name (document 01, "LM, SAM and SRM" and "Refusal numbers"): the tests that stand before the
 -- table's own items, in that paper's order. They never apply to a lent table, even one with the same octets.
 -- A SAM or an SRM has no such tests: by name it is readOutcome sam, writeOutcome sam, readOutcome srm and writeOutcome srm.
--- The table of LM is proved to pass the check (BuiltIn, in builtin's specs/Built.antt), so refusal 1 does not occur here.
+-- The table of LM is proved to pass the check (BuiltIn, in builtin's specs/Built.antt), so no refusal of a table occurs here.
 use Prim.Native.Nat.{ℕ}
 use mathlib.Core.Bool.{Bool, true, false}
 use mathlib.Core.List.{List}

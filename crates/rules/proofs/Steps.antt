@@ -13,7 +13,7 @@ use lib.ListN.{length}
 use borrow.Author.Tests.{le-leb, lt-leb, eqb-true, eq-eqb, not-true}
 use Rattle.octets.specs.Numbers.{u16, u16s, there}
 use Rattle.row.specs.Rows.{rowOf, rowAt, within}
-use Rattle.rules.specs.Rules.{flagsInBounds, references, branches, hasBranch, someBranch, deepest, Part, itsEnd, itsKind, itsLength, itsNumbers, itsReferences, itsBranch, itsDepth}
+use Rattle.rules.specs.Rules.{flagsInBounds, references, branches, hasBranch, someBranch, deepest, itsEnd, itsKind, itsLength, itsNumbers, itsReferences, itsBranch, itsDepth}
 use Rattle.rules.specs.Tests.{depthIn, allPassed, rowDepth, RowVerdict, sound, demand, rowVerdict}
 use Rattle.row.specs.Kinds.{byKind, lengthOf, leastCount, mostCount, countOf, referenceCount, referenceStep, mayReserve, flagCount, leastBelow}
 use Rattle.rules.specs.Steps.{Headed, kept, deepestFrom, toldAs, rowTested}

@@ -24,21 +24,23 @@ pub fn table_with_broken_rows(random: &mut Random) -> Vec<u8> {
 }
 
 /// The parts of a row in the order in which they are spoilt: what is spoilt later leaves the others
-/// as they are.
+/// mostly as they are. A wrong reference is a branch, where all were reserved; another length may come
+/// with another m.
 const PARTS: [u32; 6] = [
-    Refusal::ROW_NUMBER,
-    Refusal::ROW_BRANCH,
-    Refusal::ROW_REFERENCE,
-    Refusal::ROW_LENGTH,
-    Refusal::ROW_KIND,
-    Refusal::ROW_END,
+    Refusal::WRONG_ROW_NUMBER,
+    Refusal::ONLY_RESERVED,
+    Refusal::WRONG_REFERENCE,
+    Refusal::WRONG_ROW_LENGTH,
+    Refusal::UNKNOWN_KIND,
+    Refusal::ROW_PAST_END,
 ];
 
-/// Adds a row with one wrong part, or two. With a row of depth 32 to refer to, it is too deep too.
+/// Adds a row with one wrong part, or two. With a row of depth 32 to refer to, it is too deep too, or
+/// that alone; one that refers to no row is then right.
 fn add_broken(random: &mut Random, rows: &mut Rows, deep: Option<Offset>) {
     let first = random.pick(&PARTS);
     let kind = match first {
-        Refusal::ROW_NUMBER => random.pick(&[
+        Refusal::WRONG_ROW_NUMBER => random.pick(&[
             kind::FIXED_RUN,
             kind::COUNTED_RUN,
             kind::RECORD,
@@ -46,8 +48,8 @@ fn add_broken(random: &mut Random, rows: &mut Rows, deep: Option<Offset>) {
             kind::CHOICE,
             kind::OCTETS,
         ]),
-        Refusal::ROW_BRANCH => kind::CHOICE,
-        Refusal::ROW_REFERENCE => random.pick(&[
+        Refusal::ONLY_RESERVED => kind::CHOICE,
+        Refusal::WRONG_REFERENCE => random.pick(&[
             kind::FIXED_RUN,
             kind::COUNTED_RUN,
             kind::RECORD,
@@ -60,7 +62,7 @@ fn add_broken(random: &mut Random, rows: &mut Rows, deep: Option<Offset>) {
     if let (Some(deep), Some(at)) = (deep, row.some_reference(random)) {
         row.numbers[at] = deep;
     }
-    // A row that refers to a deep one is wrong by itself.
+    // A row that refers to a row of depth 32 is wrong by itself.
     let only_deep = deep.is_some() && random.one_in(2);
     for part in PARTS {
         if !only_deep && (part == first || Some(part) == second) {
@@ -81,7 +83,8 @@ struct Row {
 }
 
 impl Row {
-    /// A row of this kind that breaks no rule, if there are rows that it can refer to.
+    /// A row of this kind that breaks no rule, if there are rows that it can refer to; now and then all
+    /// branches of a choice are reserved.
     fn right(random: &mut Random, rows: &Rows, kind: u16) -> Row {
         let mut numbers = vec![0, kind];
         let reference = |random: &mut Random| rows.any_earlier(random).unwrap_or(0);
@@ -148,19 +151,19 @@ impl Row {
     /// Makes a part wrong, where the row's kind has it.
     fn spoil(&mut self, random: &mut Random, part: u32) {
         match part {
-            Refusal::ROW_NUMBER => self.spoil_number(random),
-            Refusal::ROW_BRANCH => {
+            Refusal::WRONG_ROW_NUMBER => self.spoil_number(random),
+            Refusal::ONLY_RESERVED => {
                 if self.kind() == kind::CHOICE {
                     self.numbers[3..].fill(RESERVED);
                 }
             }
-            Refusal::ROW_REFERENCE => {
+            Refusal::WRONG_REFERENCE => {
                 if let Some(at) = self.some_reference(random) {
                     self.numbers[at] = self.wrong_reference(random, self.numbers[at]);
                 }
             }
-            Refusal::ROW_LENGTH => self.spoil_length(random),
-            Refusal::ROW_KIND => {
+            Refusal::WRONG_ROW_LENGTH => self.spoil_length(random),
+            Refusal::UNKNOWN_KIND => {
                 let more = self.kind() + 256;
                 self.numbers[1] = random.pick(&[0, 8, 9, 100, 300, more, 0xFFFF]);
             }
@@ -201,8 +204,8 @@ impl Row {
         self.end();
     }
 
-    /// The row itself, or behind it; inside a row, or between two octets of one; nowhere. FFFF is
-    /// wrong in a run and a record alone.
+    /// The row itself, or behind it; inside a row, at an odd offset too; nowhere. FFFF is wrong in a run
+    /// and a record alone.
     fn wrong_reference(&self, random: &mut Random, right: Offset) -> Offset {
         let at = self.at as Offset;
         let end = at + self.size as Offset;

@@ -28,7 +28,11 @@ pub fn wrong_bits(random: &mut Random, table: &[u8], drawn: &Drawn) -> Option<Sp
                 return None;
             }
             let any = first + random.below(last - first + 1);
-            (random.pick(&[first, last, any]), item.width, Refusal::SPAN)
+            (
+                random.pick(&[first, last, any]),
+                item.width,
+                Refusal::ABOVE_SPAN,
+            )
         }
         Form::Index { row } => {
             let Row::Choice { branches } = Row::at(table, row) else {
@@ -38,11 +42,11 @@ pub fn wrong_bits(random: &mut Random, table: &[u8], drawn: &Drawn) -> Option<Sp
             if branches.get(index).and_then(branch_row).is_some() {
                 return None;
             }
-            (index as u64, item.width, Refusal::BRANCH)
+            (index as u64, item.width, Refusal::NO_BRANCH)
         }
         Form::Length { most } => match random.below(4) {
-            0 => (0xC0 | random.below(64), 8, Refusal::LENGTH_FORM),
-            1 => (0x8000 | random.below(128), 16, Refusal::LENGTH_FORM),
+            0 => (0xC0 | random.below(64), 8, Refusal::BAD_LENGTH),
+            1 => (0x8000 | random.below(128), 16, Refusal::BAD_LENGTH),
             _ if most < LENGTH_MOST => {
                 let above = u64::from(most) + 1;
                 let any = above + random.below(u64::from(LENGTH_MOST) - above + 1);
@@ -51,7 +55,7 @@ pub fn wrong_bits(random: &mut Random, table: &[u8], drawn: &Drawn) -> Option<Sp
             }
             _ => return None,
         },
-        Form::Variable => (0xF0 | random.below(16), 8, Refusal::VARIABLE_FORM),
+        Form::Variable => (0xF0 | random.below(16), 8, Refusal::BAD_VARIABLE),
         Form::Presence | Form::Octet => return None,
     };
     Some(Spoilt {

@@ -97,12 +97,12 @@ impl<const F: u8> Engine<F> {
     pub(super) fn lm_tests(message: &[u8]) -> Result<(), Refusal> {
         Self::message_tests(message)?;
         let subtype = fetch(message, 0, 4);
-        let wrong_subtype = Refusal::new(Refusal::SUBTYPE, 0);
+        let wrong_subtype = Refusal::new(Refusal::WRONG_SUBTYPE, 0);
         if planted::<F>(Fault::SubtypeFirst) && subtype > LM_SUBTYPE_MOST {
             return Err(wrong_subtype);
         }
         if fetch(message, LM_VERSION_PLACE, 3) != LM_VERSION {
-            return Err(Refusal::new(Refusal::VERSION, LM_VERSION_PLACE));
+            return Err(Refusal::new(Refusal::WRONG_VERSION, LM_VERSION_PLACE));
         }
         if subtype > LM_SUBTYPE_MOST {
             return Err(wrong_subtype);
@@ -113,13 +113,13 @@ impl<const F: u8> Engine<F> {
     /// The tests of an LM's list before its values.
     pub(super) fn lm_list_tests<L: ValueList + ?Sized>(values: &L) -> Result<(), Refusal> {
         let (Some(subtype), Some(version)) = (values.get(0), values.get(LM_VERSION_INDEX)) else {
-            return Err(Refusal::new(Refusal::VALUE, values.count()));
+            return Err(Refusal::new(Refusal::WRONG_VALUE, values.count()));
         };
         if version != LM_VERSION as i64 {
-            return Err(Refusal::new(Refusal::VERSION, LM_VERSION_INDEX));
+            return Err(Refusal::new(Refusal::WRONG_VERSION, LM_VERSION_INDEX));
         }
         if !(0..=LM_SUBTYPE_MOST as i64).contains(&subtype) {
-            return Err(Refusal::new(Refusal::SUBTYPE, 0));
+            return Err(Refusal::new(Refusal::WRONG_SUBTYPE, 0));
         }
         Ok(())
     }

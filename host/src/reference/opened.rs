@@ -22,7 +22,7 @@ impl<'a> Opened<'a> {
                 octets: &message[..0],
                 place: 0,
             };
-            return (empty, Err(Refusal::new(Refusal::MESSAGE_SIZE, 0)));
+            return (empty, Err(Refusal::new(Refusal::TOO_LONG, 0)));
         }
         let opened = Opened {
             octets: message,
@@ -44,13 +44,13 @@ impl<'a> Opened<'a> {
     pub(super) fn take_with<const F: u8>(&mut self, width: u64) -> Result<u64, Refusal> {
         let left = (8 * self.octets.len() - self.place) as u64;
         if planted::<F>(Fault::BitsBeforeWidth) && width > left {
-            return Err(Refusal::new(Refusal::SHORT, self.place));
+            return Err(Refusal::new(Refusal::MESSAGE_ENDS, self.place));
         }
         if width > TAKE_MOST {
             return Err(Refusal::new(Refusal::ABOVE_MOST, self.place));
         }
         if width > left {
-            return Err(Refusal::new(Refusal::SHORT, self.place));
+            return Err(Refusal::new(Refusal::MESSAGE_ENDS, self.place));
         }
         let number = fetch(self.octets, self.place, width as u32);
         self.place += width as usize;

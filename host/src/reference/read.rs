@@ -104,7 +104,7 @@ impl<V: ValueSlice + ?Sized, const F: u8> Reader<'_, V, F> {
     #[inline]
     fn need(&self, width: u32) -> Result<(), Refusal> {
         if self.bits_left() < width as usize {
-            return Err(self.refusal(Refusal::SHORT));
+            return Err(self.refusal(Refusal::MESSAGE_ENDS));
         }
         Ok(())
     }
@@ -168,7 +168,7 @@ impl<V: ValueSlice + ?Sized, const F: u8> Reader<'_, V, F> {
         }
         let distance = self.peek(width);
         if distance > u64::from(span) && !planted::<F>(Fault::SpanNotTested) {
-            return Err(self.refusal(Refusal::SPAN));
+            return Err(self.refusal(Refusal::ABOVE_SPAN));
         }
         self.keep(low + distance as i64, width)
     }
@@ -177,7 +177,7 @@ impl<V: ValueSlice + ?Sized, const F: u8> Reader<'_, V, F> {
         self.need(8)?;
         let ones = (self.peek(8) as u8).leading_ones();
         let Some(base) = VARIABLE_BASES.get(ones as usize) else {
-            return Err(self.refusal(Refusal::VARIABLE_FORM));
+            return Err(self.refusal(Refusal::BAD_VARIABLE));
         };
         let width = 8 * (ones + 1);
         self.need(width)?;
@@ -192,16 +192,16 @@ impl<V: ValueSlice + ?Sized, const F: u8> Reader<'_, V, F> {
             0b00 | 0b01 => (first, 8),
             0b10 => {
                 if planted::<F>(Fault::SecondOctetPlace) && self.bits_left() < 16 {
-                    return Err(Refusal::new(Refusal::SHORT, self.place + 8));
+                    return Err(Refusal::new(Refusal::MESSAGE_ENDS, self.place + 8));
                 }
                 self.need(16)?;
                 let length = self.peek(16) & 0x3FFF;
                 if length < 128 && !planted::<F>(Fault::ShortInLongForm) {
-                    return Err(self.refusal(Refusal::LENGTH_FORM));
+                    return Err(self.refusal(Refusal::BAD_LENGTH));
                 }
                 (length, 16)
             }
-            _ => return Err(self.refusal(Refusal::LENGTH_FORM)),
+            _ => return Err(self.refusal(Refusal::BAD_LENGTH)),
         };
         if length > u64::from(most) {
             return Err(self.refusal(Refusal::ABOVE_MOST));
@@ -253,7 +253,7 @@ impl<V: ValueSlice + ?Sized, const F: u8> Reader<'_, V, F> {
         self.need(width)?;
         let index = self.peek(width);
         let Some(row) = branches.get(index as usize).and_then(branch_row) else {
-            return Err(self.refusal(Refusal::BRANCH));
+            return Err(self.refusal(Refusal::NO_BRANCH));
         };
         self.keep(index as i64, width)?;
         self.row(row)
@@ -292,7 +292,7 @@ impl<V: ValueSlice + ?Sized, const F: u8> Reader<'_, V, F> {
         if self.message.len() == size && zero {
             return Ok(());
         }
-        Err(self.refusal(Refusal::LEFT))
+        Err(self.refusal(Refusal::NOT_PADDING))
     }
 }
 
@@ -301,10 +301,10 @@ impl<const F: u8> Engine<F> {
     pub(super) fn message_tests(message: &[u8]) -> Result<(), Refusal> {
         let most = MESSAGE_MOST + usize::from(planted::<F>(Fault::MessageOneLonger));
         if message.len() > most {
-            return Err(Refusal::new(Refusal::MESSAGE_SIZE, 0));
+            return Err(Refusal::new(Refusal::TOO_LONG, 0));
         }
         if message.is_empty() {
-            return Err(Refusal::new(Refusal::SHORT, 0));
+            return Err(Refusal::new(Refusal::MESSAGE_ENDS, 0));
         }
         Ok(())
     }

@@ -47,17 +47,17 @@ pub fn read_lm_into(message: &[u8], values: &mut [i64]) -> Answer {
 #[inline(always)]
 fn read(message: &[u8], values: &mut [i64]) -> Result<usize, Refusal> {
     if message.len() > MESSAGE_MOST {
-        return Err(Refusal::new(Refusal::MESSAGE_SIZE, 0));
+        return Err(Refusal::new(Refusal::TOO_LONG, 0));
     }
     let Some(first) = message.first() else {
-        return Err(Refusal::new(Refusal::SHORT, 0));
+        return Err(Refusal::new(Refusal::MESSAGE_ENDS, 0));
     };
     if first & 0b111 != VERSION {
-        return Err(Refusal::new(Refusal::VERSION, VERSION_PLACE));
+        return Err(Refusal::new(Refusal::WRONG_VERSION, VERSION_PLACE));
     }
     let subtype = first >> 4;
     if subtype > SUBTYPE_MOST {
-        return Err(Refusal::new(Refusal::SUBTYPE, 0));
+        return Err(Refusal::new(Refusal::WRONG_SUBTYPE, 0));
     }
     let room = values.len();
     let mut reader = Reader {
@@ -69,7 +69,7 @@ fn read(message: &[u8], values: &mut [i64]) -> Result<usize, Refusal> {
     reader.t_header()?;
     reader.octets()?; // user data
     if !reader.rest.is_empty() {
-        return Err(reader.refusal(Refusal::LEFT));
+        return Err(reader.refusal(Refusal::NOT_PADDING));
     }
     Ok(room - reader.room.len())
 }
@@ -103,7 +103,7 @@ impl Reader<'_> {
     fn next<const N: usize>(&self) -> Result<[u8; N], Refusal> {
         match self.rest.first_chunk() {
             Some(&octets) => Ok(octets),
-            None => Err(self.refusal(Refusal::SHORT)),
+            None => Err(self.refusal(Refusal::MESSAGE_ENDS)),
         }
     }
 
@@ -145,7 +145,7 @@ impl Reader<'_> {
         let [first] = self.next()?;
         let subtype = first >> 4;
         if subtype == INTERNAL_FORWARDING || subtype > SUBTYPE_MOST {
-            return Err(self.refusal(Refusal::BRANCH));
+            return Err(self.refusal(Refusal::NO_BRANCH));
         }
         self.original_n_header(subtype)
     }
@@ -178,7 +178,7 @@ impl Reader<'_> {
         let octet = joined(self.next::<1>()?);
         let (selector, extended) = (octet >> 1, octet & 1);
         if selector > 1 {
-            return Err(self.refusal(Refusal::BRANCH));
+            return Err(self.refusal(Refusal::NO_BRANCH));
         }
         self.keep(1, [selector, extended], [0, 7])?;
         if selector == 0 {
@@ -226,7 +226,7 @@ impl Reader<'_> {
             1 => self.variable_of::<2>(),
             2 => self.variable_of::<3>(),
             3 => self.variable_of::<4>(),
-            _ => Err(self.refusal(Refusal::VARIABLE_FORM)),
+            _ => Err(self.refusal(Refusal::BAD_VARIABLE)),
         }
     }
 
@@ -245,11 +245,11 @@ impl Reader<'_> {
             0b10 => {
                 let length = joined(self.next::<2>()?) & 0x3FFF;
                 if length < 128 {
-                    return Err(self.refusal(Refusal::LENGTH_FORM));
+                    return Err(self.refusal(Refusal::BAD_LENGTH));
                 }
                 (2, length)
             }
-            _ => return Err(self.refusal(Refusal::LENGTH_FORM)),
+            _ => return Err(self.refusal(Refusal::BAD_LENGTH)),
         };
         if length > most {
             return Err(self.refusal(Refusal::ABOVE_MOST));
@@ -287,7 +287,7 @@ impl Reader<'_> {
         let there = length.min(self.rest.len()).min(self.room.len());
         self.rest = &self.rest[there..];
         if self.rest.is_empty() {
-            self.refusal(Refusal::SHORT)
+            self.refusal(Refusal::MESSAGE_ENDS)
         } else {
             self.refusal(Refusal::NO_ROOM)
         }

@@ -146,7 +146,7 @@ impl Referred {
     /// The deepest of them.
     #[inline]
     fn deepest(self) -> Result<u8, Part> {
-        hold(self.known, Refusal::ROW_REFERENCE)?;
+        hold(self.known, Refusal::WRONG_REFERENCE)?;
         Ok(self.deepest)
     }
 }
@@ -166,13 +166,13 @@ fn hold(right: bool, part: Part) -> Result<(), Part> {
 /// A row of the length that its kind asks for.
 #[inline]
 fn of_length<const N: usize>(row: &[u8]) -> Result<&[u8; N], Part> {
-    row.try_into().map_err(|_| Refusal::ROW_LENGTH)
+    row.try_into().map_err(|_| Refusal::WRONG_ROW_LENGTH)
 }
 
 /// Holds a count, a limit or m to its bounds.
 #[inline]
 fn within(number: u16, bounds: RangeInclusive<u16>) -> Result<(), Part> {
-    hold(bounds.contains(&number), Refusal::ROW_NUMBER)
+    hold(bounds.contains(&number), Refusal::WRONG_ROW_NUMBER)
 }
 
 /// The bounds of a count, a limit or m, by the row's kind.
@@ -226,7 +226,7 @@ impl<const F: u8> Engine<F> {
                 Ok(row) => row,
                 Err(part) => {
                     let refusal = Refusal::new(part, Self::place_told(at, rest));
-                    if !planted::<F>(Fault::LastBrokenRow) || part < Refusal::ROW_NUMBER {
+                    if !planted::<F>(Fault::LastBrokenRow) || part < Refusal::WRONG_ROW_NUMBER {
                         return Err(refusal);
                     }
                     broken = Some(refusal);
@@ -262,9 +262,9 @@ impl<const F: u8> Engine<F> {
     #[inline]
     fn test_row(rest: &[u8], depths: &Depths) -> Result<(usize, u8), Part> {
         Self::test_too_early(rest)?;
-        hold(rest.len() >= 4, Refusal::ROW_END)?;
+        hold(rest.len() >= 4, Refusal::ROW_PAST_END)?;
         let length = usize::from(word(rest, 0));
-        let row = rest.get(..length).ok_or(Refusal::ROW_END)?;
+        let row = rest.get(..length).ok_or(Refusal::ROW_PAST_END)?;
         let kind = if planted::<F>(Fault::KindLowOctet) {
             u16::from(rest[2])
         } else {
@@ -281,10 +281,10 @@ impl<const F: u8> Engine<F> {
                 within(word(of_length::<6>(row)?, 4), bounds::OCTETS)?;
                 0
             }
-            _ => return Err(Refusal::ROW_KIND),
+            _ => return Err(Refusal::UNKNOWN_KIND),
         };
         let depth_most = DEPTH_MOST + u8::from(planted::<F>(Fault::DepthOneMore));
-        hold(deepest < depth_most, Refusal::ROW_DEPTH)?;
+        hold(deepest < depth_most, Refusal::TOO_DEEP)?;
         Ok((length, deepest + 1))
     }
 
@@ -295,7 +295,7 @@ impl<const F: u8> Engine<F> {
         let mut referred = Referred::to_none();
         referred.add(depths.at(word(row, 6)));
         if planted::<F>(Fault::ReferenceBeforeCount) {
-            hold(referred.known, Refusal::ROW_REFERENCE)?;
+            hold(referred.known, Refusal::WRONG_REFERENCE)?;
         }
         within(word(row, 4), bounds)?;
         referred.deepest()
@@ -312,17 +312,17 @@ impl<const F: u8> Engine<F> {
             flags |= word(field, 2);
             referred.add(depths.at(word(field, 0)));
             if planted::<F>(Fault::FlagBesideReference) {
-                hold(flags <= 1, Refusal::ROW_NUMBER)?;
-                hold(referred.known, Refusal::ROW_REFERENCE)?;
+                hold(flags <= 1, Refusal::WRONG_ROW_NUMBER)?;
+                hold(referred.known, Refusal::WRONG_REFERENCE)?;
             }
             if planted::<F>(Fault::DepthBeforeReference) {
-                hold(referred.deepest < DEPTH_MOST, Refusal::ROW_DEPTH)?;
+                hold(referred.deepest < DEPTH_MOST, Refusal::TOO_DEEP)?;
             }
         }
         if planted::<F>(Fault::ReferenceBeforeFlag) {
-            hold(referred.known, Refusal::ROW_REFERENCE)?;
+            hold(referred.known, Refusal::WRONG_REFERENCE)?;
         }
-        hold(flags <= 1, Refusal::ROW_NUMBER)?;
+        hold(flags <= 1, Refusal::WRONG_ROW_NUMBER)?;
         referred.deepest()
     }
 
@@ -339,9 +339,9 @@ impl<const F: u8> Engine<F> {
         }
         let deepest = referred.deepest()?;
         if planted::<F>(Fault::NoBranchAsReference) {
-            hold(deepest > 0, Refusal::ROW_REFERENCE)?;
+            hold(deepest > 0, Refusal::WRONG_REFERENCE)?;
         }
-        hold(deepest > 0, Refusal::ROW_BRANCH)?;
+        hold(deepest > 0, Refusal::ONLY_RESERVED)?;
         Ok(deepest)
     }
 
@@ -349,17 +349,19 @@ impl<const F: u8> Engine<F> {
     /// before them; it is held to the row's length, and then to its bounds.
     #[inline]
     fn items<const N: usize>(row: &[u8], bounds: RangeInclusive<u16>) -> Result<&[[u8; N]], Part> {
-        let (head, items) = row.split_first_chunk::<6>().ok_or(Refusal::ROW_LENGTH)?;
+        let (head, items) = row
+            .split_first_chunk::<6>()
+            .ok_or(Refusal::WRONG_ROW_LENGTH)?;
         let m = word(head, 4);
         if planted::<F>(Fault::BoundsInLength) {
-            hold(bounds.contains(&m), Refusal::ROW_LENGTH)?;
+            hold(bounds.contains(&m), Refusal::WRONG_ROW_LENGTH)?;
         }
         let right = if planted::<F>(Fault::LengthWraps) {
             row.len() as u16 == m.wrapping_mul(N as u16).wrapping_add(6)
         } else {
             row.len() == 6 + N * usize::from(m)
         };
-        hold(right, Refusal::ROW_LENGTH)?;
+        hold(right, Refusal::WRONG_ROW_LENGTH)?;
         within(m, bounds)?;
         Ok(items.as_chunks().0)
     }
@@ -373,13 +375,13 @@ impl<const F: u8> Engine<F> {
         };
         if planted::<F>(Fault::KindBeforeEnd) {
             let known = (kind::NUMBER..=kind::OCTETS).contains(&kind);
-            hold(known, Refusal::ROW_KIND)?;
+            hold(known, Refusal::UNKNOWN_KIND)?;
         }
         if planted::<F>(Fault::ShortLengthAsEnd) {
-            hold(length >= 4, Refusal::ROW_END)?;
+            hold(length >= 4, Refusal::ROW_PAST_END)?;
         }
         if planted::<F>(Fault::LengthBeforeKind) {
-            hold(length >= 4, Refusal::ROW_LENGTH)?;
+            hold(length >= 4, Refusal::WRONG_ROW_LENGTH)?;
         }
         let ends = usize::from(length) <= rest.len();
         if let (true, true, Some(count)) =

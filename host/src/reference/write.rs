@@ -71,7 +71,7 @@ impl<L: ValueList + ?Sized, const F: u8> Writer<'_, L, F> {
             {
                 Ok(low + i64::from(value.wrapping_sub(low) as u32))
             }
-            _ => Err(self.refusal(Refusal::VALUE)),
+            _ => Err(self.refusal(Refusal::WRONG_VALUE)),
         }
     }
 
@@ -175,7 +175,7 @@ impl<L: ValueList + ?Sized, const F: u8> Writer<'_, L, F> {
     fn choice(&mut self, branches: &[[u8; 2]]) -> Result<(), Refusal> {
         let index = self.next(0, branches.len() as i64 - 1)?;
         let Some(row) = branch_row(&branches[index as usize]) else {
-            return Err(self.refusal(Refusal::VALUE));
+            return Err(self.refusal(Refusal::WRONG_VALUE));
         };
         self.put(index as u64, index_width(branches.len()))?;
         self.row(row)
@@ -184,7 +184,7 @@ impl<L: ValueList + ?Sized, const F: u8> Writer<'_, L, F> {
     /// After the root: no value left over, then zero bits to the octet's end. Gives the size.
     fn end(&mut self) -> Result<usize, Refusal> {
         if self.index < self.values.count() && !planted::<F>(Fault::LeftOverTaken) {
-            return Err(self.refusal(Refusal::VALUE));
+            return Err(self.refusal(Refusal::WRONG_VALUE));
         }
         if self.bits == 0 && !planted::<F>(Fault::EmptyRootUncounted) {
             let Some(first) = self.output.first_mut() else {

@@ -123,7 +123,7 @@ fn taken(message: &[u8], place: usize, k: u32) -> Result<Bits, Refusal> {
         _ => 0,
     };
     if k as usize > held.saturating_sub(place) {
-        return Err(Refusal::new(Refusal::SHORT, place));
+        return Err(Refusal::new(Refusal::MESSAGE_ENDS, place));
     }
     let next = place + k as usize;
     let bit = |at: usize| u64::from(message[at / 8] >> (7 - at % 8) & 1);

@@ -3,11 +3,9 @@ use borrow.Author.Needs.{needs}
 use borrow.Author.Tests.{not-true, not-false, eqb-true}
 use native.Mathlib.Omega.{arith}
 use denote.Ref.{now}
-use Prim.Native.Nat.{_+_, _≤_}
 use mathlib.Core.Bool.{true}
 use mathlib.Core.Path.{_≡_, refl, sym, _∙_}
 use lib.Dec.{eqb}
-use lib.ListN.{length}
 use Rattle.row.specs.Kinds.{lengthOf, countOf}
 use Rattle.row.proofs.ByKind.{least-length, two-apart}
 use Rattle.rules.specs.Steps.{spread, deepestFrom}
