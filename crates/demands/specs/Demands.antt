@@ -4,7 +4,7 @@
 -- Demand 1 is the contracts of the calls: none has a `requires`, and each says its answer and what every lent slice then holds.
 -- docs/CLAIMS.md lists them, and a test holds the list to the sources.
 -- The theorems here are about the definitions that those contracts cite (readCall, writeCall, valuesAfter, packedAfter,
--- outputAfter, readLmCall, writeLmCall, userDataFound, verdict) and about document 01's rules, which mention no code.
+-- outputAfter, readLmCall, writeLmCall, userDataFound, verdict) and about the rules of documents 01 and 02, which mention no code.
 --
 -- Beside it stands what is said of the bench program's text: OneText, in stream's specs/Program.antt.
 use Prim.Native.Nat.{ℕ}
@@ -55,11 +55,6 @@ pub record Demands : Type 1 where
   -- the answer followed by zeros
   pub filled : FilledUp
   pub zeros : ZerosAfter
-  -- what the check finds in any octets, where a table breaks a rule which row and which part of it, and that reading and writing
-  -- under it answer the same; the corners, computed
-  pub tables : (t : List ℕ) → Checks t
-  pub underTables : (t : List ℕ) → UnderTable t
-  pub tableCases : TablesGiven
   -- what a row's depth is
   pub depths : (t : List ℕ) → Depths t
   -- the bits of each kind of item: which values, how many bits, and that one can be told from the other
@@ -77,6 +72,13 @@ pub record Demands : Type 1 where
   -- the twelve marked cases, and where the user data stands in those that are LMs
   pub cases : Given
   pub userDataCases : UserDataCases
+  -- ── document 02, ticket 1 ──
+  -- what the check finds in any octets; where they break a rule as a table, which row and which part of it
+  pub tables : (t : List ℕ) → Checks t
+  -- that reading and writing under them answer the same
+  pub underTables : (t : List ℕ) → UnderTable t
+  -- the corners, computed
+  pub tableCases : TablesGiven
   -- ── beside the demands ──
   -- how many rows are visited at most, counted over the definitions, and that it may be so many
   pub visits : (t : List ℕ) → Visits t

@@ -1,6 +1,6 @@
 -- Tables with the first rule that they break, or none: the corners of document 02's ticket 1. That the definitions give them is
 -- `TablesGiven`; the proof is proofs/Cases.antt.
-use Prim.Native.Nat.{ℕ, zero, suc, _+_}
+use Prim.Native.Nat.{ℕ, zero, suc, _+_, _/_, _%_}
 use mathlib.Core.Path.{_≡_}
 use mathlib.Core.List.{List, [], _∷_, map}
 use Rattle.answer.specs.Numbers.{refusalAt}
@@ -11,14 +11,14 @@ pub record TableCase : Type 0 where
   pub table : List ℕ
   pub gives : Verdict
 
--- so many fixed runs of one, each of the row before it; the first stands at o and is of the row at r
-unfoldable pub runsOfOne : ℕ → ℕ → ℕ → List ℕ
-runsOfOne zero o r = []
-runsOfOne (suc n) o r = 8 ∷ 0 ∷ 3 ∷ 0 ∷ 1 ∷ 0 ∷ r ∷ 0 ∷ runsOfOne n (o + 8) o
+-- n fixed runs from o on, each of one item: the first run of the row at r, every other of the run before it
+unfoldable pub nested : ℕ → ℕ → ℕ → List ℕ
+nested zero r o = []
+nested (suc n) r o = 8 ∷ 0 ∷ 3 ∷ 0 ∷ 1 ∷ 0 ∷ r % 256 ∷ r / 256 ∷ nested n o (o + 8)
 
--- a variable number, and so many of them
-unfoldable pub deep : ℕ → List ℕ
-deep n = 4 ∷ 0 ∷ 2 ∷ 0 ∷ runsOfOne n 4 0
+-- a variable number, and so many of them around it
+unfoldable pub around : ℕ → List ℕ
+around n = 4 ∷ 0 ∷ 2 ∷ 0 ∷ nested n 0 4
 
 unfoldable pub tableCases : List TableCase
 tableCases =
@@ -28,6 +28,8 @@ tableCases =
     ∷ record { table = 0x06 ∷ 0x00 ∷ 0x2c ∷ 0x01 ∷ []; gives = broken (refusalAt 20 0) }
     -- three octets left for a row
     ∷ record { table = 0x04 ∷ 0x00 ∷ 0x02 ∷ 0x00 ∷ 0x04 ∷ 0x00 ∷ 0x02 ∷ []; gives = broken (refusalAt 20 4) }
+    -- two octets left for a row, whose length they are
+    ∷ record { table = 0x04 ∷ 0x00 ∷ 0x02 ∷ 0x00 ∷ 0x02 ∷ 0x00 ∷ []; gives = broken (refusalAt 20 4) }
     -- its kind before its length
     ∷ record { table = 0x00 ∷ 0x00 ∷ 0x2c ∷ 0x01 ∷ []; gives = broken (refusalAt 21 0) }
     -- a length of 3 is none
@@ -49,8 +51,8 @@ tableCases =
     -- one branch
     ∷ record { table = 0x04 ∷ 0x00 ∷ 0x02 ∷ 0x00 ∷ 0x0a ∷ 0x00 ∷ 0x06 ∷ 0x00 ∷ 0x02 ∷ 0x00 ∷ 0xff ∷ 0xff ∷ 0x00 ∷ 0x00 ∷ []; gives = passed }
     -- 32 deep, and 33
-    ∷ record { table = deep 31; gives = passed }
-    ∷ record { table = deep 32; gives = broken (refusalAt 26 252) }
+    ∷ record { table = around 31; gives = passed }
+    ∷ record { table = around 32; gives = broken (refusalAt 26 252) }
     ∷ []
 
 -- the definitions give every case its verdict

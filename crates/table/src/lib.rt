@@ -1,4 +1,5 @@
-// Tables: the check against document 01's rules ("Row layout"), and what a table that passed it tells.
+// Tables: the check against document 01's rules ("Row layout"), which tells the first that is broken (document 02, ticket 1), and what
+// a table that passed it tells.
 pub mod passed;
 
 use answer::Answer;

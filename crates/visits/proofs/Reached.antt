@@ -15,7 +15,8 @@ use Rattle.table.proofs.Decides.{passes-exactly}
 use Rattle.items.specs.Items.{one, times}
 use Rattle.encoding.specs.Rows.{rowItems}
 use Rattle.visits.specs.Visits.{mark, marked, visitedInReading, visitedInWriting}
-use Rattle.visits.specs.Reached.{nested, deep, Reached}
+use Rattle.table.specs.Cases.{nested}
+use Rattle.visits.specs.Reached.{deep, Reached}
 
 deep-passes : verdict deep ≡ passed
 unfolding nested deep u16 u32 signed u16s there rowOf rowAt rowLength knownKind within flagsInBounds numbersInBounds branches references someBranch hasBranch rowVerdict rowDepth verdict

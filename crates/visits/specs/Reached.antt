@@ -1,16 +1,12 @@
 -- The bounds of Visits.antt are reached, where there is no room: by a table 32 rows deep, each of which is visited before the first
 -- value. After a value the rows inside the outermost are visited again. The proof is proofs/Reached.antt.
-use Prim.Native.Nat.{ℕ, zero, suc, _+_, _/_, _%_}
+use Prim.Native.Nat.{ℕ}
 use mathlib.Core.Path.{_≡_}
 use mathlib.Core.List.{List, [], _∷_, _++_}
 use lib.IntN.{pos}
 use Rattle.rules.specs.Rules.{Obeys}
+use Rattle.table.specs.Cases.{nested}
 use Rattle.visits.specs.Visits.{visitedInReading, visitedInWriting}
-
--- n fixed runs from o on, each of one item: the first run of the row at r, every other of the run before it
-unfoldable pub nested : ℕ → ℕ → ℕ → List ℕ
-nested zero r o = []
-nested (suc n) r o = 8 ∷ 0 ∷ 3 ∷ 0 ∷ 1 ∷ 0 ∷ r % 256 ∷ r / 256 ∷ nested n o (o + 8)
 
 -- a number of no bits, 30 runs of one around it, and a run of two of the last of them
 unfoldable pub deep : List ℕ
