@@ -22,8 +22,8 @@ noBranch = 4
 abbrev pub badLength : ℕ
 badLength = 5
 
-abbrev pub aboveMost : ℕ
-aboveMost = 6
+abbrev pub outsideLimits : ℕ
+outsideLimits = 6
 
 abbrev pub badVariable : ℕ
 badVariable = 7

@@ -35,8 +35,8 @@ impl Refusal {
     pub const NO_BRANCH: u32 = 4;
     // A length in a form that is not its own.
     pub const BAD_LENGTH: u32 = 5;
-    // A length outside its row.
-    pub const ABOVE_MOST: u32 = 6;
+    // A count or a length outside its limits.
+    pub const OUTSIDE_LIMITS: u32 = 6;
     // A variable number that starts 1111.
     pub const BAD_VARIABLE: u32 = 7;
     // No place for the next value, or the next bits.

@@ -10,13 +10,13 @@ use lib.Dec.{leb, ltb}
 use lib.IntN.{ℤ, pos, negsuc, _+ℤ_, _-ℤ_}
 use lib.ListN.{length, take, drop, getD}
 use Rattle.bits.specs.Bits.{numberOf, bitsOf, width}
-use Rattle.answer.specs.Numbers.{messageEnds, aboveSpan, noBranch, badLength, aboveMost, badVariable}
+use Rattle.answer.specs.Numbers.{messageEnds, aboveSpan, noBranch, badLength, outsideLimits, badVariable}
 
 -- the kinds of item
 pub data Code : Type 0 where
   number : ℤ → ℕ → Code  -- a number: low, span
   variable : Code  -- a variable number
-  lengthWithin : ℕ → ℕ → Code  -- a length: least and most, which belong to its row (in document 01's rows the least is 0)
+  lengthWithin : ℕ → ℕ → Code  -- a length: least and most, which belong to its row
   index : List Bool → Code  -- an index: for each branch, whether it is there (not reserved)
 
 -- ── which values, and their bits ──
@@ -128,7 +128,7 @@ abbrev pub decodeOffset : Code → List Bool → Got ℕ
 decodeOffset (number low span) b = bitField (width span) b (λ n r. provided (leb n span) aboveSpan (got n r))
 decodeOffset variable b = octetField 4 badVariable b (λ c m r. got (base c + m) r)
 decodeOffset (lengthWithin least most) b =
-    octetField 2 badLength b (λ c m r. provided (leb (leastOf c) m) badLength (provided (leb least m && leb m most) aboveMost (got m r)))
+    octetField 2 badLength b (λ c m r. provided (leb (leastOf c) m) badLength (provided (leb least m && leb m most) outsideLimits (got m r)))
 decodeOffset (index branches) b = bitField (indexWidth branches) b (λ n r. provided (getD branches n false) noBranch (got n r))
 
 abbrev pub above : ℤ → Got ℕ → Got ℤ

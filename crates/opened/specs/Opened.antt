@@ -10,7 +10,7 @@ use Rattle.bits.specs.Bits.{numberOf, unpack}
 use Rattle.bits.specs.declared.Fetched.{Fetched}
 use Rattle.bits.specs.declared.Fetched.the-variants.{Bits, Short}
 use Rattle.answer.specs.declared.Answer.{Answer}
-use Rattle.answer.specs.Numbers.{refusalAt, accepted, refused, tooLong, aboveMost, messageEnds}
+use Rattle.answer.specs.Numbers.{refusalAt, accepted, refused, tooLong, outsideLimits, messageEnds}
 use Rattle.opened.specs.declared.Taken.{Taken}
 use Rattle.opened.specs.declared.Taken.the-variants.{Number, Refused}
 
@@ -32,7 +32,7 @@ refusedAt number p = Refused (refusalAt number p)
 -- k bits taken at p: above 32 is 6, then too few bits is 2, which are those from p on; of no bits none is missing, anywhere
 abbrev pub taken : List ℕ → ℕ → ℕ → Taken
 taken m p k =
-    cond (ltb 32 k) (refusedAt aboveMost p)
+    cond (ltb 32 k) (refusedAt outsideLimits p)
     (cond (leb k (8 * length m - p)) (took (numberOf (take k (drop p (unpack m)))) (p + k)) (refusedAt messageEnds p))
 
 -- the place after: k on, or where it was

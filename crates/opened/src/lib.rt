@@ -68,7 +68,7 @@ pub fn take_from(message: &[u8], place: BitPlace, k: u32) -> Taken
     ensures { λ r. ⌜ r ≡ taken (kept (now (message .entry))) (place .0) k ⌝ }
 {
     if MOST_BITS < k {
-        return refused(Refusal::ABOVE_MOST, place);
+        return refused(Refusal::OUTSIDE_LIMITS, place);
     }
     if k == 0 {
         return Taken::Number(0, place);

@@ -15,7 +15,7 @@ use Rattle.bits.specs.Access.{placeAt, fetched}
 use Rattle.bits.specs.declared.BitPlace.{BitPlace}
 use Rattle.bits.specs.declared.Fetched.the-variants.{Bits, Short}
 use Rattle.bits.proofs.Bits.{numberOf-take-lt, length-unpack}
-use Rattle.answer.specs.Numbers.{refusalAt, messageEnds, aboveSpan, noBranch, badLength, aboveMost, badVariable}
+use Rattle.answer.specs.Numbers.{refusalAt, messageEnds, aboveSpan, noBranch, badLength, outsideLimits, badVariable}
 use Rattle.item.specs.Code.{Code, number, variable, lengthWithin, index, base, leastOf, indexWidth, valueBits, Got, got, bad, provided, bitField, octetField, onesUpTo, decodeOffset, above, decodeItem}
 use Rattle.item.specs.Answers.{itemOf}
 use Rattle.read_item.specs.Steps.{frontOf, boundedLength}
@@ -226,7 +226,7 @@ module _ (least most : ℕ) (b : List Bool) (p : ℕ) where
   lengthReading = itemOf (lengthWithin least most) p (decodeItem (lengthWithin least most) b)
 
   abbrev lengthValue : ℕ → ℕ → List Bool → Got ℕ
-  lengthValue c m r = provided (leb (leastOf c) m) badLength (provided (leb least m && leb m most) aboveMost (got m r))
+  lengthValue c m r = provided (leb (leastOf c) m) badLength (provided (leb least m && leb m most) outsideLimits (got m r))
 
   pub length-short : frontOf b p 8 ≡ Short → lengthReading ≡ Bad (refusalAt messageEnds p)
   length-short e = rw (octet-short 2 badLength b lengthValue (front-Short b p 8 e))
@@ -263,7 +263,7 @@ module _ (least most : ℕ) (b : List Bool) (p : ℕ) where
         length-is h =
             let m = n - leadingWorth c in
             rw (form .1)
-            (tested (lengthWithin least most) b p (8 * suc c) (leb least m && leb m most) aboveMost m
+            (tested (lengthWithin least most) b p (8 * suc c) (leb least m && leb m most) outsideLimits m
             (rw (length-spelt .then, le-leb (leastOf c) m (rw (form .1) at h)))
             (length-front .inside) (length-front .after))
 

@@ -10,7 +10,7 @@ use Rattle.bits.specs.Access.{placeAt}
 use Rattle.bits.specs.declared.BitPlace.{BitPlace}
 use Rattle.bits.specs.declared.Fetched.{Fetched}
 use Rattle.bits.specs.declared.Fetched.the-variants.{Bits, Short}
-use Rattle.answer.specs.Numbers.{aboveMost, refusalAt}
+use Rattle.answer.specs.Numbers.{outsideLimits, refusalAt}
 use Rattle.item.specs.declared.Item.{Item}
 use Rattle.item.specs.declared.Item.the-variants.{Value, Bad}
 
@@ -20,4 +20,4 @@ frontOf b p k = cond (leb k (length b)) (Bits (numberOf (take k b)) (placeAt (p 
 
 -- a length at p in its own form, with the place after it
 abbrev pub boundedLength : ℕ → ℕ → BitPlace → ℕ → ℕ → Item
-boundedLength p n next least most = cond (leb least n && leb n most) (Value (pos n) next) (Bad (refusalAt aboveMost p))
+boundedLength p n next least most = cond (leb least n && leb n most) (Value (pos n) next) (Bad (refusalAt outsideLimits p))

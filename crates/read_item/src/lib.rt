@@ -112,10 +112,10 @@ fn bounded(place: BitPlace, n: u32, next: BitPlace, least: u32, most: u32) -> It
     ensures { λ r. ⌜ r ≡ boundedLength (place .0) n next least most ⌝ }
 {
     if n < least {
-        return Item::Bad(Refusal::new(Refusal::ABOVE_MOST, place.0));
+        return Item::Bad(Refusal::new(Refusal::OUTSIDE_LIMITS, place.0));
     }
     if most < n {
-        return Item::Bad(Refusal::new(Refusal::ABOVE_MOST, place.0));
+        return Item::Bad(Refusal::new(Refusal::OUTSIDE_LIMITS, place.0));
     }
     Item::Value(n as i64, next)
 }
