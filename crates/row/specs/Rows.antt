@@ -1,4 +1,4 @@
--- The rows of a table (document 01, "Row layout"): what stands at an offset.
+-- The rows of a table (document 01, "Row layout", and document 02, ticket 2): what stands at an offset.
 use Prim.Native.Nat.{ℕ, _+_, _*_}
 use mathlib.Core.Bool.{Bool, cond, _&&_}
 use mathlib.Core.List.{List}
@@ -7,8 +7,8 @@ use lib.IntN.{ℤ}
 use lib.ListN.{length}
 use Rattle.octets.specs.Numbers.{u16, u32, signed, u16s}
 
--- a row (document 01's term), by its kind. The least and the most of a length belong to the row; in the rows of document 01 the
--- least is 0, and the table gives the most alone
+-- a row (document 01's term), by its kind. The least and the most of octets' length belong to the row: the least goes by the kind, 0
+-- of octets and 1 of open octets (document 02, ticket 2), and the table gives the most
 pub data Row : Type 0 where
   Number : ℤ → ℕ → Row  -- kind 1: low, span
   Variable : Row  -- kind 2
@@ -16,7 +16,7 @@ pub data Row : Type 0 where
   CountedRun : ℕ → ℕ → Row  -- kind 4: most, reference
   Record : List ℕ → List ℕ → Row  -- kind 5: the fields' references and flags
   Choice : List ℕ → Row  -- kind 6: the branches' references
-  Octets : ℕ → ℕ → Row  -- kind 7: least, most
+  Octets : ℕ → ℕ → Row  -- kinds 7 and 8: least, most
   Unknown : Row  -- any other kind
 
 -- the row at o, read as being of a kind
@@ -29,7 +29,8 @@ rowOf t o kind =
     (cond (eqb kind 5) (Record (u16s t (o + 6) 4 (u16 t (o + 4))) (u16s t (o + 8) 4 (u16 t (o + 4))))
     (cond (eqb kind 6) (Choice (u16s t (o + 6) 2 (u16 t (o + 4))))
     (cond (eqb kind 7) (Octets 0 (u16 t (o + 4)))
-    Unknown))))))
+    (cond (eqb kind 8) (Octets 1 (u16 t (o + 4)))
+    Unknown)))))))
 
 -- the row at o
 unfoldable pub rowAt : List ℕ → ℕ → Row

@@ -7,7 +7,7 @@ ghost use lib.ListN.{length};
 ghost use lib.Signed.{mag};
 ghost use Rattle.octets.specs.Numbers.{u16, u32, signed};
 ghost use Rattle.row.specs.Rows.{within};
-ghost use Rattle.row.specs.Kinds.{lengthOf, hasCount, leastCount, mostCount, countOf, referenceCount, referenceStep, mayReserve, flagCount, leastBelow};
+ghost use Rattle.row.specs.Kinds.{lengthOf, hasCount, leastCount, mostCount, countOf, leastLength, referenceCount, referenceStep, mayReserve, flagCount, leastBelow};
 
 // A row (document 01's term); no value of it is made.
 pub struct Row;
@@ -27,6 +27,8 @@ impl Row {
     pub const CHOICE: usize = 6;
 
     pub const OCTETS: usize = 7;
+
+    pub const OPEN_OCTETS: usize = 8;
 
     // The sizes that a table may have.
     pub const LEAST_TABLE: usize = 4;
@@ -89,6 +91,7 @@ impl Row {
             Row::RECORD => Row::HEAD + Row::FIELD * count,
             Row::CHOICE => Row::HEAD + Row::BRANCH * count,
             Row::OCTETS => Row::OCTETS_LENGTH,
+            Row::OPEN_OCTETS => Row::OCTETS_LENGTH,
             _ => 0,
         }
     }
@@ -97,7 +100,7 @@ impl Row {
     fn has_count(kind: usize) -> bool
         ensures { λ r. ⌜ r ≡ hasCount kind ⌝ }
     {
-        Row::between(Row::FIXED_RUN, Row::OCTETS, kind)
+        Row::between(Row::FIXED_RUN, Row::OPEN_OCTETS, kind)
     }
 
     pub fn least_count(kind: usize) -> usize
@@ -108,6 +111,7 @@ impl Row {
             Row::COUNTED_RUN => 1,
             Row::RECORD => 1,
             Row::CHOICE => 2,
+            Row::OPEN_OCTETS => 1,
             _ => 0,
         }
     }
@@ -121,6 +125,7 @@ impl Row {
             Row::RECORD => 32,
             Row::CHOICE => 128,
             Row::OCTETS => 16383,
+            Row::OPEN_OCTETS => 16383,
             _ => 0,
         }
     }
@@ -203,6 +208,15 @@ impl Row {
         } else {
             0
         }
+    }
+
+    // The least length of octets: their count is the most.
+    pub fn least_at(table: &[u8], at: usize) -> u32
+        requires { ⌜ at + 4 ≤ length (now table) ⌝ }
+        ensures { λ r. ⌜ r ≡ leastLength (u16 (now (table .entry)) (at + 2)) ⌝ }
+    {
+        let kind = Row::kind_at(table, at);
+        if kind == Row::OPEN_OCTETS { 1 } else { 0 }
     }
 
     // The low of a number.

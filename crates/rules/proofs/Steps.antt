@@ -20,7 +20,7 @@ use Rattle.rules.specs.Steps.{Headed, kept, deepestFrom, toldAs, rowTest
 use Rattle.rules.specs.declared.Below.the-variants.{Depth, NoRow}
 use Rattle.rules.specs.declared.RowTest.the-variants.{Sound, Broken}
 use Rattle.row.proofs.Bools.{cond-second, and-false}
-use Rattle.row.proofs.ByKind.{Kind, number, variable, fixed, counted, group, choice, octets, none, kindOf, length-references}
+use Rattle.row.proofs.ByKind.{Kind, number, variable, fixed, counted, group, choice, octets, openOctets, none, kindOf, length-references}
 use Rattle.rules.proofs.ByKind.{known-kind, row-length, row-numbers, row-references}
 
 -- ── a branch ──
@@ -48,12 +48,12 @@ zero-least : (n : ℕ) → leb 0 n ≡ true
 zero-least n = le-leb 0 n (omega arith)
 
 module _ (t : List ℕ) (o : ℕ) (d : List ℕ) where
-  has-branch : (k : ℕ) → within 1 7 k ≡ true → allPassed d (references (rowOf t o k)) ≡ true
+  has-branch : (k : ℕ) → within 1 8 k ≡ true → allPassed d (references (rowOf t o k)) ≡ true
       → hasBranch (rowOf t o k) ≡ leb (leastBelow k) (deepest (depthIn d) (references (rowOf t o k)))
   unfolding hasBranch rowOf byKind leastBelow references
   has-branch k h p = go (kindOf k) h p
     where
-      go : {k : ℕ} → Kind k → within 1 7 k ≡ true → allPassed d (references (rowOf t o k)) ≡ true
+      go : {k : ℕ} → Kind k → within 1 8 k ≡ true → allPassed d (references (rowOf t o k)) ≡ true
           → hasBranch (rowOf t o k) ≡ leb (leastBelow k) (deepest (depthIn d) (references (rowOf t o k)))
       go number h p = refl
       go variable h p = refl
@@ -62,6 +62,7 @@ module _ (t : List ℕ) (o : ℕ) (d : List ℕ) where
       go group h p = rw zero-least
       go choice h p = some-branch d (u16s t (o + 6) 2 (u16 t (o + 4))) p
       go octets h p = refl
+      go openOctets h p = refl
       go (none n) h p = absurd (false≢true (sym n ∙ h))
 
 -- ── the whole verdict ──
@@ -102,7 +103,7 @@ module _ (t : List ℕ) (o : ℕ) (d : List ℕ) where
   byKindOf : ℕ → ℕ → ℕ → RowVerdict
   byKindOf l k m =
       demand (leb (o + 4) (length t) && leb (o + l) (length t)) itsEnd
-      (demand (within 1 7 k) itsKind
+      (demand (within 1 8 k) itsKind
       (stepsVerdict t o l k m d))
 
   row-steps : rowVerdict t o d ≡ byKindOf (u16 t o) (u16 t (o + 2)) (countOf t o (u16 t (o + 2)))
@@ -110,7 +111,7 @@ module _ (t : List ℕ) (o : ℕ) (d : List ℕ) where
   row-steps =
       let k = u16 t (o + 2) in
       rw (known-kind t o k)
-      (same-tests (leb (o + 4) (length t) && leb (o + u16 t o) (length t)) (within 1 7 k) _ _ _ _ _ _ _ _ _ _ (λ h.
+      (same-tests (leb (o + 4) (length t) && leb (o + u16 t o) (length t)) (within 1 8 k) _ _ _ _ _ _ _ _ _ _ (λ h.
       let e = row-references t o k h in (
         ap (eqb (u16 t o)) (row-length t o k h),
         row-numbers t o k h,
@@ -130,7 +131,7 @@ module _ (t : List ℕ) (o : ℕ) (d : List ℕ) where
     unfolding rowTested byKindOf
     outside-broken h = rw (row-steps, ← length-is, lt-leb (o + l) (length t) h, and-false (leb (o + 4) (length t)))
 
-    pub kind-broken : (k : ℕ) → k ≡ u16 t (o + 2) → o + 4 ≤ length t → o + l ≤ length t → within 1 7 k ≡ false → Broken 21 ≡ rowTested t o d
+    pub kind-broken : (k : ℕ) → k ≡ u16 t (o + 2) → o + 4 ≤ length t → o + l ≤ length t → within 1 8 k ≡ false → Broken 21 ≡ rowTested t o d
     unfolding rowTested byKindOf
     kind-broken k kind-is a b h = rw (row-steps, ← length-is, ← kind-is, le-leb (o + 4) (length t) a, le-leb (o + l) (length t) b, h)
 

@@ -24,7 +24,7 @@ pub record Headed (t : List ℕ) (o l k : ℕ) : Type 0 where
   pub inside : o + l ≤ length t
   pub length-is : l ≡ u16 t o
   pub kind-is : k ≡ u16 t (o + 2)
-  pub known : within 1 7 k ≡ true
+  pub known : within 1 8 k ≡ true
 
 -- references without those of reserved branches, if there may be any
 unfoldable pub kept : Bool → List ℕ → List ℕ

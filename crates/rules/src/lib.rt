@@ -28,7 +28,7 @@ enum Below {
 
 // Whether a row of a known kind has the length that its kind asks for, with the count that stands in it.
 fn length_right(table: &[u8], at: usize, size: usize, kind: usize) -> bool
-    requires { ⌜ (at + size ≤ length (now table)) × (within 1 7 kind ≡ true) ⌝ }
+    requires { ⌜ (at + size ≤ length (now table)) × (within 1 8 kind ≡ true) ⌝ }
     ensures { λ r. ⌜ r ≡ eqb size (lengthOf kind (countOf (now (table .entry)) at kind)) ⌝ }
 {
     if size < Row::length(kind, 0) {
@@ -175,6 +175,7 @@ pub fn row_test(table: &[u8], at: usize, left: usize, depths: &[u8]) -> RowTest
         Row::RECORD => kind_test(table, at, size, Row::RECORD, depths),
         Row::CHOICE => kind_test(table, at, size, Row::CHOICE, depths),
         Row::OCTETS => kind_test(table, at, size, Row::OCTETS, depths),
+        Row::OPEN_OCTETS => kind_test(table, at, size, Row::OPEN_OCTETS, depths),
         _ => RowTest::Broken(Refusal::UNKNOWN_KIND),
     }
 }

@@ -7,14 +7,14 @@ use mathlib.Core.Path.{_≡_, refl, sym, ap, _∙_, subst}
 use mathlib.Core.Logic.{_≢_}
 use mathlib.Core.List.{List, [], _∷_, map}
 use native.Mathlib.Omega.{arith}
-use lib.Dec.{leb, eqb}
-use lib.ListN.{length, getD, List·getD-map}
-use borrow.Author.Tests.{leb-true, eqb-true, ne-eqb}
+use lib.ListN.{length, getD}
 use Rattle.octets.specs.Numbers.{u16, u32, signed, u16s, there}
 use Rattle.octets.proofs.Numbers.{length-u16s, getD-u16s}
-use Rattle.row.specs.Rows.{Row, Number, Variable, FixedRun, CountedRun, Record, Choice, Octets, Unknown, rowOf, rowAt, rowLength, within}
-use Rattle.rules.specs.Rules.{Starts, All, Earlier, references, branches, flagsInBounds, knownKind, numbersInBounds, RowObeys, Obeys}
-use Rattle.row.proofs.Bools.{within-inside}
+use Rattle.row.specs.Rows.{Row, Number, Variable, FixedRun, CountedRun, Record, Choice, Octets, rowOf, rowAt, rowLength, within}
+use Rattle.row.specs.Kinds.{isOctets, leastLength}
+use Rattle.rules.specs.Rules.{Starts, All, Earlier, references, branches, flagsInBounds, numbersInBounds, RowObeys, Obeys}
+use Rattle.row.proofs.Bools.{within-inside, inside-within}
+use Rattle.row.proofs.ByKind.{Kind, number, variable, fixed, counted, group, choice, octets, openOctets, none, kindOf}
 use Rattle.table.proofs.Decides.{apart, row-four}
 use Rattle.rules.proofs.ByKind.{known-kind}
 
@@ -27,13 +27,6 @@ all-at : (P : ℕ → Type 0) (rs : List ℕ) (i d : ℕ) → All P rs → i < l
 all-at P [] i d h l = absurd (omega arith)
 all-at P (r ∷ rs) zero d h l = h .0
 all-at P (r ∷ rs) (suc i) d h l = all-at P rs i d (h .1) (omega arith)
-
--- one of some flags
-flag-at : (fs : List ℕ) (i d : ℕ) → flagsInBounds fs ≡ true → i < length fs → getD fs i d ≤ 1
-unfolding flagsInBounds
-flag-at [] i d h l = absurd (omega arith)
-flag-at (f ∷ fs) zero d h l = leb-true f 1 (and-eq-true-iff (leb f 1) (flagsInBounds fs) .0 h .0)
-flag-at (f ∷ fs) (suc i) d h l = flag-at fs i d (and-eq-true-iff (leb f 1) (flagsInBounds fs) .0 h .1) (omega arith)
 
 -- a branch that is there
 pub branch-at : (P : ℕ → Type 0) (rs : List ℕ) (i d : ℕ) → All P (branches rs) → getD (map there rs) i false ≡ true → P (getD rs i d)
@@ -131,57 +124,34 @@ module _ {t : List ℕ} {o : ℕ} (h : Obeys t) (s : Starts t o) where
         branch = λ i t. branch-at (Earlier _ o) rs i 65535 (refer _ e) t;
       }
 
-  pub octets-row : u16 t (o + 2) ≡ 7 → (rowAt t o ≡ Octets 0 (u16 t (o + 4))) × (o + 6 ≤ length t)
-  unfolding rowAt rowOf rowLength
-  octets-row k = let e : rowAt t o ≡ Octets 0 (u16 t (o + 4)) = rw k in (e, long _ e)
+  pub octets-row : isOctets (u16 t (o + 2)) ≡ true → (rowAt t o ≡ Octets (leastLength (u16 t (o + 2))) (u16 t (o + 4))) × (o + 6 ≤ length t)
+  unfolding rowAt rowOf rowLength leastLength within
+  octets-row k = let e = go (kindOf (u16 t (o + 2))) k in (e, long _ e)
+    where
+      go : {k : ℕ} → Kind k → isOctets k ≡ true → rowOf t o k ≡ Octets (leastLength k) (u16 t (o + 4))
+      go number e = absurd (false≢true e)
+      go variable e = absurd (false≢true e)
+      go fixed e = absurd (false≢true e)
+      go counted e = absurd (false≢true e)
+      go group e = absurd (false≢true e)
+      go choice e = absurd (false≢true e)
+      go octets e = refl
+      go openOctets e = refl
+      go {k} (none n) e = let w = within-inside 7 8 k e in absurd (false≢true (sym n ∙ inside-within 1 8 k (omega arith) (omega arith)))
 
   -- a row of no other kind is octets
   pub last-kind : (u16 t (o + 2) ≢ 1) → (u16 t (o + 2) ≢ 2) → (u16 t (o + 2) ≢ 3) → (u16 t (o + 2) ≢ 4) → (u16 t (o + 2) ≢ 5) → (u16 t (o + 2) ≢ 6)
-      → u16 t (o + 2) ≡ 7
-  unfolding rowAt rowOf knownKind
-  last-kind h1 h2 h3 h4 h5 h6 =
-      go (eqb (u16 t (o + 2)) 7) refl
-      (rw (ne-eqb _ 1 h1, ne-eqb _ 2 h2, ne-eqb _ 3 h3, ne-eqb _ 4 h4, ne-eqb _ 5 h5, ne-eqb _ 6 h6) at (obeyed .kindKnown))
+      → isOctets (u16 t (o + 2)) ≡ true
+  unfolding rowAt within
+  last-kind = go (kindOf (u16 t (o + 2))) (sym (known-kind t o (u16 t (o + 2))) ∙ obeyed .kindKnown)
     where
-      go : (b : Bool) → eqb (u16 t (o + 2)) 7 ≡ b → knownKind (cond b (Octets 0 (u16 t (o + 4))) Unknown) ≡ true → u16 t (o + 2) ≡ 7
-      go true e k = eqb-true (u16 t (o + 2)) 7 e
-      go false e k = absurd (false≢true k)
-
-  -- ── kinds and numbers in bounds ──
-
-  pub row-kind : (1 ≤ u16 t (o + 2)) × (u16 t (o + 2) ≤ 7)
-  unfolding rowAt
-  row-kind = within-inside 1 7 (u16 t (o + 2)) (sym (known-kind t o (u16 t (o + 2))) ∙ obeyed .kindKnown)
-
-  pub fixed-count : u16 t (o + 2) ≡ 3 → (1 ≤ u16 t (o + 4)) × (u16 t (o + 4) ≤ 1024)
-  unfolding numbersInBounds
-  fixed-count k = within-inside 1 1024 (u16 t (o + 4)) (numbered _ (fixed-row k .0))
-
-  pub counted-most : u16 t (o + 2) ≡ 4 → (1 ≤ u16 t (o + 4)) × (u16 t (o + 4) ≤ 16383)
-  unfolding numbersInBounds
-  counted-most k = within-inside 1 16383 (u16 t (o + 4)) (numbered _ (counted-row k .0))
-
-  pub octets-most : u16 t (o + 2) ≡ 7 → u16 t (o + 4) ≤ 16383
-  unfolding numbersInBounds
-  octets-most k = within-inside 0 16383 (u16 t (o + 4)) (numbered _ (octets-row k .0)) .1
-
-  -- a record has a field, and each flag is 0 or 1
-  pub record-numbers : u16 t (o + 2) ≡ 5 → (1 ≤ u16 t (o + 4)) × ((i : ℕ) → i < u16 t (o + 4) → u16 t (o + 8 + 4 * i) ≤ 1)
-  unfolding numbersInBounds
-  record-numbers k =
-      let m = u16 t (o + 4) in
-      let rs = u16s t (o + 6) 4 m in
-      let n = and-eq-true-iff (within 1 32 (length rs)) (flagsInBounds (u16s t (o + 8) 4 m)) .0 (numbered _ (record-row k .is)) in (
-        omega (arith, within-inside 1 32 (length rs) (n .0) .0, length-u16s t 4 (o + 6) m),
-        λ i h. rw (getD-u16s t 4 (o + 8) m i 0 h) at (flag-at (u16s t (o + 8) 4 m) i 0 (n .1) (omega (arith, length-u16s t 4 (o + 8) m))),
-      )
-
-  -- a branch that isn't reserved
-  pub choice-branch : u16 t (o + 2) ≡ 6 → (i : ℕ) → i < u16 t (o + 4) → u16 t (o + 6 + 2 * i) ≢ 65535 → Earlier t o (u16 t (o + 6 + 2 * i))
-  unfolding there
-  choice-branch k i h n =
-      let rs = u16s t (o + 6) 2 (u16 t (o + 4)) in
-      let e = getD-u16s t 2 (o + 6) (u16 t (o + 4)) i 65535 h in
-      let l : i < length rs = omega (arith, length-u16s t 2 (o + 6) (u16 t (o + 4))) in
-      let b : getD (map there rs) i false ≡ true = List·getD-map there rs i 65535 ∙ rw (e, ne-eqb (u16 t (o + 6 + 2 * i)) 65535 n) in
-      rw e at (choice-row k .branch i b)
+      go : {k : ℕ} → Kind k → within 1 8 k ≡ true → (k ≢ 1) → (k ≢ 2) → (k ≢ 3) → (k ≢ 4) → (k ≢ 5) → (k ≢ 6) → isOctets k ≡ true
+      go number h h1 h2 h3 h4 h5 h6 = absurd (h1 refl)
+      go variable h h1 h2 h3 h4 h5 h6 = absurd (h2 refl)
+      go fixed h h1 h2 h3 h4 h5 h6 = absurd (h3 refl)
+      go counted h h1 h2 h3 h4 h5 h6 = absurd (h4 refl)
+      go group h h1 h2 h3 h4 h5 h6 = absurd (h5 refl)
+      go choice h h1 h2 h3 h4 h5 h6 = absurd (h6 refl)
+      go octets h h1 h2 h3 h4 h5 h6 = refl
+      go openOctets h h1 h2 h3 h4 h5 h6 = refl
+      go (none n) h h1 h2 h3 h4 h5 h6 = absurd (false≢true (sym n ∙ h))

@@ -1,4 +1,4 @@
--- Tables with the first rule that they break, or none: the corners of document 02's ticket 1. That the definitions give them is
+-- Tables with the first rule that they break, or none: the corners of document 02's tickets 1 and 2. That the definitions give them is
 -- `TablesGiven`; the proof is proofs/Cases.antt.
 use Prim.Native.Nat.{ℕ, zero, suc, _+_, _/_, _%_}
 use mathlib.Core.Path.{_≡_}
@@ -50,6 +50,13 @@ tableCases =
     ∷ record { table = 0x04 ∷ 0x00 ∷ 0x02 ∷ 0x00 ∷ 0x0a ∷ 0x00 ∷ 0x06 ∷ 0x00 ∷ 0x02 ∷ 0x00 ∷ 0xff ∷ 0xff ∷ 0xff ∷ 0xff ∷ []; gives = broken (refusalAt 25 4) }
     -- one branch
     ∷ record { table = 0x04 ∷ 0x00 ∷ 0x02 ∷ 0x00 ∷ 0x0a ∷ 0x00 ∷ 0x06 ∷ 0x00 ∷ 0x02 ∷ 0x00 ∷ 0xff ∷ 0xff ∷ 0x00 ∷ 0x00 ∷ []; gives = passed }
+    -- open octets: a most of 0, where octets may have it; of 1, of 16,383 and of 16,384; and the kind after them
+    ∷ record { table = 0x06 ∷ 0x00 ∷ 0x08 ∷ 0x00 ∷ 0x00 ∷ 0x00 ∷ []; gives = broken (refusalAt 23 0) }
+    ∷ record { table = 0x06 ∷ 0x00 ∷ 0x07 ∷ 0x00 ∷ 0x00 ∷ 0x00 ∷ []; gives = passed }
+    ∷ record { table = 0x06 ∷ 0x00 ∷ 0x08 ∷ 0x00 ∷ 0x01 ∷ 0x00 ∷ []; gives = passed }
+    ∷ record { table = 0x06 ∷ 0x00 ∷ 0x08 ∷ 0x00 ∷ 0xff ∷ 0x3f ∷ []; gives = passed }
+    ∷ record { table = 0x06 ∷ 0x00 ∷ 0x08 ∷ 0x00 ∷ 0x00 ∷ 0x40 ∷ []; gives = broken (refusalAt 23 0) }
+    ∷ record { table = 0x06 ∷ 0x00 ∷ 0x09 ∷ 0x00 ∷ 0x01 ∷ 0x00 ∷ []; gives = broken (refusalAt 21 0) }
     -- 32 deep, and 33
     ∷ record { table = around 31; gives = passed }
     ∷ record { table = around 32; gives = broken (refusalAt 26 252) }

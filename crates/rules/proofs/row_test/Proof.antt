@@ -28,7 +28,7 @@ returns-2 c =
     outside-broken (now (a .table)) (a .at) (spread (now (a .depths))) (l .result) (l .ensures .0) (omega arith)
 
 -- past the kind: the row lies inside the table, and is of that kind, where it is one
-headed : (c : tie.After-kind-at) (k : ℕ) → c .kind-at .result ≡ k → within 1 7 k ≡ true → (length (now (c .before .before .before .before .before .before .args .table)) ≤ 4096) × Headed (now (c .before .before .before .before .before .before .args .table)) (c .before .before .before .before .before .before .args .at) (c .before .before .length-at .result) k
+headed : (c : tie.After-kind-at) (k : ℕ) → c .kind-at .result ≡ k → within 1 8 k ≡ true → (length (now (c .before .before .before .before .before .before .args .table)) ≤ 4096) × Headed (now (c .before .before .before .before .before .before .args .table)) (c .before .before .before .before .before .before .args .at) (c .before .before .length-at .result) k
 headed c k e known = (
   c .before .before .before .before .before .before .pre .1,
   record {
@@ -40,15 +40,15 @@ headed c k e known = (
   },
 )
 
-returns-10 : tie.Need-returns-10
+returns-11 : tie.Need-returns-11
 unfolding rowOf knownKind
-returns-10 c =
+returns-11 c =
     let a = c .before .before .before .before .before .before .before .args in
     let l = c .before .before .before .length-at in
     let k = c .before .kind-at in
     let no = c .match .rest in
     kind-broken (now (a .table)) (a .at) (spread (now (a .depths))) (l .result) (l .ensures .0) (k .result) (k .ensures .0) (omega arith) (omega arith)
-    (sym (known-kind (now (a .table)) (a .at) (k .result)) ∙ simp (ne-eqb _ _ (no .1), ne-eqb _ _ (no .0 .1), ne-eqb _ _ (no .0 .0 .1), ne-eqb _ _ (no .0 .0 .0 .1), ne-eqb _ _ (no .0 .0 .0 .0 .1), ne-eqb _ _ (no .0 .0 .0 .0 .0 .1), ne-eqb _ _ (no .0 .0 .0 .0 .0 .0 .1)))
+    (sym (known-kind (now (a .table)) (a .at) (k .result)) ∙ simp (ne-eqb _ _ (no .1), ne-eqb _ _ (no .0 .1), ne-eqb _ _ (no .0 .0 .1), ne-eqb _ _ (no .0 .0 .0 .1), ne-eqb _ _ (no .0 .0 .0 .0 .1), ne-eqb _ _ (no .0 .0 .0 .0 .0 .1), ne-eqb _ _ (no .0 .0 .0 .0 .0 .0 .1), ne-eqb _ _ (no .0 .0 .0 .0 .0 .0 .0 .1)))
 
 pub row-test-spec : {M : Type 1} → statement M
 unfolding within
@@ -66,6 +66,7 @@ row-test-spec =
     (λ c κs. headed (c .before) 5 (c .match .keys5) refl)
     (λ c κs. headed (c .before) 6 (c .match .keys6) refl)
     (λ c κs. headed (c .before) 7 (c .match .keys7) refl)
+    (λ c κs. headed (c .before) 8 (c .match .keys8) refl)
     (λ c. search needs)
     (λ c. search needs)
     (λ c. search needs)
@@ -73,4 +74,5 @@ row-test-spec =
     (λ c. search needs)
     (λ c. search needs)
     (λ c. search needs)
-    returns-10)
+    (λ c. search needs)
+    returns-11)

@@ -5,9 +5,9 @@ use Rattle.row.proofs.Bools.{cond-same}
 use Rattle.row.proofs.Row.least_count.Statement.{statement}
 use Rattle.row.proofs.Row.least_count.Tie as tie
 
-returns-5 : tie.Need-returns-5
+returns-6 : tie.Need-returns-6
 unfolding byKind leastCount
-returns-5 c = simp (ne-eqb _ _ (c .match .rest .1), ne-eqb _ _ (c .match .rest .0 .1), ne-eqb _ _ (c .match .rest .0 .0 .1), ne-eqb _ _ (c .match .rest .0 .0 .0 .1), cond-same)
+returns-6 c = simp (ne-eqb _ _ (c .match .rest .1), ne-eqb _ _ (c .match .rest .0 .1), ne-eqb _ _ (c .match .rest .0 .0 .1), ne-eqb _ _ (c .match .rest .0 .0 .0 .1), ne-eqb _ _ (c .match .rest .0 .0 .0 .0 .1), cond-same)
 
 pub least-count-spec : {M : Type 1} → statement M
 unfolding byKind leastCount
@@ -18,4 +18,5 @@ least-count-spec =
     (λ c. rw (c .match .keys2))
     (λ c. rw (c .match .keys3))
     (λ c. rw (c .match .keys4))
-    returns-5)
+    (λ c. rw (c .match .keys5))
+    returns-6)

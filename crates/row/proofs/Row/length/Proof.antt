@@ -5,9 +5,9 @@ use Rattle.row.specs.Kinds.{byKind, lengthOf}
 use Rattle.row.proofs.Row.length.Statement.{statement}
 use Rattle.row.proofs.Row.length.Tie as tie
 
-returns-8 : tie.Need-returns-8
+returns-9 : tie.Need-returns-9
 unfolding byKind lengthOf
-returns-8 c = simp (ne-eqb _ _ (c .match .rest .1), ne-eqb _ _ (c .match .rest .0 .1), ne-eqb _ _ (c .match .rest .0 .0 .1), ne-eqb _ _ (c .match .rest .0 .0 .0 .1), ne-eqb _ _ (c .match .rest .0 .0 .0 .0 .1), ne-eqb _ _ (c .match .rest .0 .0 .0 .0 .0 .1), ne-eqb _ _ (c .match .rest .0 .0 .0 .0 .0 .0 .1))
+returns-9 c = simp (ne-eqb _ _ (c .match .rest .1), ne-eqb _ _ (c .match .rest .0 .1), ne-eqb _ _ (c .match .rest .0 .0 .1), ne-eqb _ _ (c .match .rest .0 .0 .0 .1), ne-eqb _ _ (c .match .rest .0 .0 .0 .0 .1), ne-eqb _ _ (c .match .rest .0 .0 .0 .0 .0 .1), ne-eqb _ _ (c .match .rest .0 .0 .0 .0 .0 .0 .1), ne-eqb _ _ (c .match .rest .0 .0 .0 .0 .0 .0 .0 .1))
 
 pub length-spec : {M : Type 1} → statement M
 unfolding byKind lengthOf
@@ -25,4 +25,5 @@ length-spec =
     (λ c. rw (c .match .keys5))
     (λ c. rw (c .match .keys6))
     (λ c. rw (c .match .keys7))
-    returns-8)
+    (λ c. rw (c .match .keys8))
+    returns-9)

@@ -5,9 +5,9 @@ use Rattle.row.proofs.Bools.{cond-same}
 use Rattle.row.proofs.Row.most_count.Statement.{statement}
 use Rattle.row.proofs.Row.most_count.Tie as tie
 
-returns-6 : tie.Need-returns-6
+returns-7 : tie.Need-returns-7
 unfolding byKind mostCount
-returns-6 c = simp (ne-eqb _ _ (c .match .rest .1), ne-eqb _ _ (c .match .rest .0 .1), ne-eqb _ _ (c .match .rest .0 .0 .1), ne-eqb _ _ (c .match .rest .0 .0 .0 .1), ne-eqb _ _ (c .match .rest .0 .0 .0 .0 .1), cond-same)
+returns-7 c = simp (ne-eqb _ _ (c .match .rest .1), ne-eqb _ _ (c .match .rest .0 .1), ne-eqb _ _ (c .match .rest .0 .0 .1), ne-eqb _ _ (c .match .rest .0 .0 .0 .1), ne-eqb _ _ (c .match .rest .0 .0 .0 .0 .1), ne-eqb _ _ (c .match .rest .0 .0 .0 .0 .0 .1), cond-same)
 
 pub most-count-spec : {M : Type 1} → statement M
 unfolding byKind mostCount
@@ -19,4 +19,5 @@ most-count-spec =
     (λ c. rw (c .match .keys3))
     (λ c. rw (c .match .keys4))
     (λ c. rw (c .match .keys5))
-    returns-6)
+    (λ c. rw (c .match .keys6))
+    returns-7)
