@@ -3,11 +3,13 @@
 use read_steps::Cursor;
 use read_steps::Step;
 use row::Row;
+ghost use mathlib.Core.Bool.{true};
 ghost use mathlib.Core.Path.{_≡_};
 ghost use Prim.Native.Nat.{_+_, _≤_};
 ghost use lib.ListN.{length};
 ghost use Rattle.bits.specs.Access.{mostOctets};
 ghost use Rattle.octets.specs.Numbers.{u16, u32, signed};
+ghost use Rattle.row.specs.Kinds.{isOctets};
 ghost use Rattle.item.specs.Code.{Code};
 ghost use Rattle.rules.specs.Rules.{Obeys, Starts};
 ghost use Rattle.items.specs.Items.{one, times};
@@ -81,7 +83,7 @@ pub fn variable(
     read_steps::kept(item, values, packed, room, cursor)
 }
 
-// A row of octets: a length, then each octet.
+// A row of octets: a length within the row's limits, then each octet.
 pub fn octets(
     table: &[u8],
     at: usize,
@@ -91,11 +93,12 @@ pub fn octets(
     room: usize,
     cursor: Cursor,
 ) -> Step
-    requires { ⌜ Obeys (now table) × Starts (now table) at × (u16 (now table) (at + 2) ≡ 7) × (length (now message) ≤ mostOctets) ⌝ }
+    requires { ⌜ Obeys (now table) × Starts (now table) at × (isOctets (u16 (now table) (at + 2)) ≡ true) × (length (now message) ≤ mostOctets) ⌝ }
     ensures { λ r. ⌜ Reads (now (message .entry)) room (items (now (table .entry)) at) (stateAt cursor (now (values .entry)) (now (packed .entry))) (now (values .exit)) (now (packed .exit)) r ⌝ }
 {
+    let least = Row::least_at(table, at);
     let most = Row::count_at(table, at);
-    let item = read_item::length(&*message, cursor.place, 0, most as u32);
+    let item = read_item::length(&*message, cursor.place, least, most as u32);
     let step = read_steps::kept(item, values, packed, room, cursor);
     let Step::Past(next) = step else {
         return step;

@@ -178,7 +178,15 @@ fn read_field(
     match kind {
         Row::NUMBER => read_leaf::number(&*table, row, &*message, values, packed, room, cursor),
         Row::VARIABLE => read_leaf::variable(&*message, values, packed, room, cursor),
-        Row::OCTETS => read_leaf::octets(&*table, row, &*message, values, packed, room, cursor),
+        Row::OCTETS | Row::OPEN_OCTETS => read_leaf::octets(
+            &*table,
+            row,
+            &*message,
+            values,
+            packed,
+            room,
+            cursor,
+        ),
         _ => read_row(&*table, row, &*message, values, packed, room, cursor),
     }
 }

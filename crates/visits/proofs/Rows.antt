@@ -67,4 +67,5 @@ row-matched t o =
     (either (eqb kind 5) _ _ (length-u16s t 4 (o + 8) n ∙ sym (length-u16s t 4 (o + 6) n))
     (either (eqb kind 6) _ _ tt
     (either (eqb kind 7) _ _ tt
-    tt))))))
+    (either (eqb kind 8) _ _ tt
+    tt)))))))

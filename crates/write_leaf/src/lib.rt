@@ -4,11 +4,13 @@ use row::Row;
 use write_steps::Cursor;
 use write_steps::Given;
 use write_steps::Step;
+ghost use mathlib.Core.Bool.{true};
 ghost use mathlib.Core.Path.{_≡_};
 ghost use Prim.Native.Nat.{_+_, _≤_};
 ghost use lib.ListN.{length};
 ghost use Rattle.bits.specs.Access.{mostOctets};
 ghost use Rattle.octets.specs.Numbers.{u16, u32, signed};
+ghost use Rattle.row.specs.Kinds.{isOctets};
 ghost use Rattle.item.specs.Code.{Code};
 ghost use Rattle.rules.specs.Rules.{Obeys, Starts};
 ghost use Rattle.items.specs.Items.{one, times};
@@ -73,7 +75,7 @@ pub fn variable(values: &[i64], packed: &[u8], output: &mut [u8], cursor: Cursor
     write_steps::moved(put, cursor.index, after)
 }
 
-// A row of octets: a length, then each octet.
+// A row of octets: a length within the row's limits, then each octet.
 pub fn octets(
     table: &[u8],
     at: usize,
@@ -82,15 +84,16 @@ pub fn octets(
     output: &mut [u8],
     cursor: Cursor,
 ) -> Step
-    requires { ⌜ Obeys (now table) × Starts (now table) at × (u16 (now table) (at + 2) ≡ 7) × (length (now output) ≤ mostOctets) ⌝ }
+    requires { ⌜ Obeys (now table) × Starts (now table) at × (isOctets (u16 (now table) (at + 2)) ≡ true) × (length (now output) ≤ mostOctets) ⌝ }
     ensures { λ r. ⌜ Writes (listIn (now (values .entry)) (now (packed .entry))) (items (now (table .entry)) at) (stateAt cursor (now (output .entry))) (now (output .exit)) r ⌝ }
 {
     let given = write_steps::next_value(&*values, &*packed, cursor.index);
     let Given::Value(value, after) = given else {
         return Step::Refused(write_steps::missing(cursor.index));
     };
+    let least = Row::least_at(table, at);
     let most = Row::count_at(table, at);
-    let put = write_item::length(output, cursor.place, 0, most as u32, value);
+    let put = write_item::length(output, cursor.place, least, most as u32, value);
     let step = write_steps::moved(put, cursor.index, after);
     let Step::Past(next) = step else {
         return step;

@@ -159,7 +159,14 @@ fn write_field(
     match kind {
         Row::NUMBER => write_leaf::number(&*table, row, &*values, &*packed, output, cursor),
         Row::VARIABLE => write_leaf::variable(&*values, &*packed, output, cursor),
-        Row::OCTETS => write_leaf::octets(&*table, row, &*values, &*packed, output, cursor),
+        Row::OCTETS | Row::OPEN_OCTETS => write_leaf::octets(
+            &*table,
+            row,
+            &*values,
+            &*packed,
+            output,
+            cursor,
+        ),
         _ => write_row(&*table, row, &*values, &*packed, output, cursor),
     }
 }

@@ -1,12 +1,14 @@
 -- `read_leaf::octets` meets its contract. A length, read and kept; then the octets.
 -- Assumes nothing.
 use Prim.Native.Nat.{_+_}
-use mathlib.Core.Path.{_≡_, ap}
+use mathlib.Core.Path.{_≡_}
+use native.Mathlib.Omega.{arith}
 use borrow.Author.Needs.{needs}
 use denote.Ref.{now}
 use lib.IntN.{pos}
 use Rattle.octets.specs.Numbers.{u16}
-use Rattle.item.specs.Code.{number, lengthWithin, natural}
+use Rattle.row.specs.Kinds.{leastLength}
+use Rattle.item.specs.Code.{Code, number, lengthWithin, natural}
 use Rattle.table.proofs.Obeyed.{octets-row}
 use Rattle.items.specs.Items.{ask, one, times}
 use Rattle.encoding.specs.Rows.{items}
@@ -16,41 +18,55 @@ use Rattle.read_steps.proofs.Keeping.{Keeping, keeping, first-refused, first-ke
 use Rattle.read_leaf.proofs.octets.Statement.{statement}
 use Rattle.read_leaf.proofs.octets.Tie as tie
 
+-- the length that the row asks for
+lengthCode : tie.Start → Code
+lengthCode s = let t = now (s .args .table) in let at = s .args .at in lengthWithin (leastLength (u16 t (at + 2))) (u16 t (at + 4))
+
 -- what the row asks for
-row-items : (s : tie.Start) → let t = now (s .args .table) in let at = s .args .at in
-    items t at ≡ ask (lengthWithin 0 (u16 t (at + 4))) (λ v. times (natural v) (one (number (pos 0) 255)))
-row-items s =
-    items-octets (now (s .args .table)) (s .args .at) 0 (u16 (now (s .args .table)) (s .args .at + 4)) (octets-row (s .pre .0) (s .pre .1) (s .pre .2) .0)
+row-items : (s : tie.Start) → items (now (s .args .table)) (s .args .at) ≡ ask (lengthCode s) (λ v. times (natural v) (one (number (pos 0) 255)))
+unfolding lengthCode
+row-items s = items-octets (now (s .args .table)) (s .args .at) _ _ (octets-row (s .pre .0) (s .pre .1) (s .pre .2) .0)
+
+least-at-requires : tie.Need-least-at-requires
+least-at-requires c κs =
+    let s = c .before .before .before in
+    omega (arith, octets-row (s .pre .0) (s .pre .1) (s .pre .2) .1)
 
 count-at-requires : tie.Need-count-at-requires
 count-at-requires c κs =
-    let s = c .before .before .before in
+    let s = c .before .before .before .before in
     octets-row (s .pre .0) (s .pre .1) (s .pre .2) .1
 
+-- the code that is read, as the row has it
+length-asked : (c : tie.After-count-at) → lengthWithin (c .before .least-at .result) (c .count-at .result) ≡ lengthCode (c .before .before .before .before .before)
+unfolding lengthCode
+length-asked c = rw (c .before .least-at .ensures, c .count-at .ensures .0)
+
 -- the length, kept
-length-kept : (c : tie.After-kept) → let a = c .before .before .before .before .before .before .before .before .args in
-    Keeping (lengthWithin 0 (u16 (now (a .table)) (a .at + 4))) (now (a .message)) (a .room) (stateAt (a .cursor) (now (a .values)) (now (a .packed)))
+length-kept : (c : tie.After-kept) → let s = c .before .before .before .before .before .before .before .before .before in let a = s .args in
+    Keeping (lengthCode s) (now (a .message)) (a .room) (stateAt (a .cursor) (now (a .values)) (now (a .packed)))
     (c .kept .last .1 .0) (c .kept .last .1 .1 .0) (c .before .before .before .length .result) (c .kept .result)
-length-kept c = keeping _ (ap (lengthWithin 0) (c .before .before .before .before .count-at .ensures .0)) (c .before .before .before .length .ensures) (c .kept .ensures)
+length-kept c = keeping _ (length-asked (c .before .before .before .before)) (c .before .before .before .length .ensures) (c .kept .ensures)
 
 returns : tie.Need-returns
 returns c =
     let kept = c .before .before .before .before .before in
     let told = c .enum-told .given .1 in
-    rw told (first-refused _ _ (row-items (kept .before .before .before .before .before .before .before .before)) (length-kept kept) told)
+    rw told (first-refused _ _ (row-items (kept .before .before .before .before .before .before .before .before .before)) (length-kept kept) told)
 
 returns-2 : tie.Need-returns-2
 returns-2 c =
     let octets = c .before .before .before .read-octets in
     let count = c .before .before .before .before .before .before in
     let kept = count .before .before .before .before .before .before .before in
-    let s = kept .before .before .before .before .before .before .before .before in
+    let s = kept .before .before .before .before .before .before .before .before .before in
     first-kept _ _ (row-items s) (length-kept kept) (count .before .before .step .given .1) .complete _ _ _ (rw (count .count-of .ensures) at (octets .ensures))
 
 pub octets-spec : {M : Type 1} → statement M
 octets-spec =
     tie.close
     (tie.spec
+    least-at-requires
     count-at-requires
     (λ c. search needs)
     (λ c κs. search needs)

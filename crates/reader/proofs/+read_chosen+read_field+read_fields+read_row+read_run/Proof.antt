@@ -10,6 +10,7 @@ use denote.Ref.{now}
 use lib.ListN.{length, getD}
 use Rattle.octets.specs.Numbers.{u16}
 use Rattle.bits.specs.Bits.{bitsOf}
+use Rattle.row.proofs.Bools.{inside-within}
 use Rattle.rules.specs.Rules.{Starts}
 use Rattle.table.proofs.Obeyed.{earlier-starts, row-starts-inside, number-row, variable-row, record-row}
 use Rattle.items.specs.Items.{_then_, times}
@@ -141,12 +142,14 @@ read-field-number-requires t c κs =
 
 read-field-octets-requires : (t : ℕ) → read-field-lts.Need-octets-requires (read-field-known t) (read-field-at t) read-field.Post
 read-field-octets-requires t c κs =
-    let s = c .before .before .before .before .before .before .before .before in
-    (s .pre .1 .0, field-starts t s, sym (c .before .before .before .kind-at .ensures .0) ∙ c .before .before .match .keys3, s .pre .1 .3)
+    let s = c .before .before .before .before .before .before .before .before .before .before in
+    let kind = c .before .before .before .before .before .kind-at in
+    let octets = inside-within 7 8 (kind .result) (omega (arith, c .before .before .before .if2 .left)) (omega (arith, c .before .before .if3 .taken)) in
+    (s .pre .1 .0, field-starts t s, rw (kind .ensures .0) at octets, s .pre .1 .3)
 
 read-field-read-row-requires : (t : ℕ) → read-field-lts.Need-read-row-requires (read-field-known t) (read-field-at t) read-field.Post
 read-field-read-row-requires t c κs =
-    let s = c .before .before .before .before .before .before .before .before in
+    let s = c .before .before .before .before .before .before .before .before .before in
     (omega (arith, s .pre .0, s .pre .1 .2 .1), (s .pre .1 .0, field-starts t s, s .pre .1 .3))
 
 read-field-returns-2 : (t : ℕ) → read-field-lts.Need-returns-2 (read-field-known t) (read-field-at t) read-field.Post
@@ -165,12 +168,12 @@ read-field-returns-3 t c =
 
 read-field-returns-4 : (t : ℕ) → read-field-lts.Need-returns-4 (read-field-known t) (read-field-at t) read-field.Post
 read-field-returns-4 t c =
-    let tested = c .before .before .before .before .before .before .before .before in
+    let tested = c .before .before .before .before .before .before .before .before .before .before in
     rw (not-false (tested .before .before .before .before .args .present) (tested .if1 .left)) (c .before .before .before .octets .ensures)
 
 read-field-returns-5 : (t : ℕ) → read-field-lts.Need-returns-5 (read-field-known t) (read-field-at t) read-field.Post
 read-field-returns-5 t c =
-    let tested = c .before .before .before .before .before .before .before .before in
+    let tested = c .before .before .before .before .before .before .before .before .before in
     rw (not-false (tested .before .before .before .before .args .present) (tested .if1 .left)) (c .before .before .before .read-row .ensures)
 
 -- ── the fields of a record ──

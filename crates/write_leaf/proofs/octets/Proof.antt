@@ -1,7 +1,7 @@
 -- `write_leaf::octets` meets its contract. A length, put by its code, and then that many octets.
 -- Assumes nothing.
 use Prim.Native.Nat.{_+_}
-use mathlib.Core.Path.{_≡_, ap}
+use mathlib.Core.Path.{_≡_}
 use native.Mathlib.Omega.{arith}
 use borrow.Author.Needs.{needs}
 use denote.Ref.{now}
@@ -9,7 +9,8 @@ use lib.IntN.{pos}
 use mir.Syntax.{w64}
 use mir.Val.{toZ, ofZ}
 use Rattle.octets.specs.Numbers.{u16}
-use Rattle.item.specs.Code.{number, lengthWithin, natural}
+use Rattle.row.specs.Kinds.{leastLength}
+use Rattle.item.specs.Code.{Code, number, lengthWithin, natural}
 use Rattle.table.proofs.Obeyed.{octets-row}
 use Rattle.items.specs.Items.{ask, one, times}
 use Rattle.encoding.specs.Rows.{items}
@@ -20,11 +21,14 @@ use Rattle.write_steps.proofs.Putting.{Putting, putting, first-missing, first-r
 use Rattle.write_leaf.proofs.octets.Statement.{statement}
 use Rattle.write_leaf.proofs.octets.Tie as tie
 
+-- the length that the row asks for
+lengthCode : tie.Start → Code
+lengthCode s = let t = now (s .args .table) in let at = s .args .at in lengthWithin (leastLength (u16 t (at + 2))) (u16 t (at + 4))
+
 -- what the row asks for
-row-items : (s : tie.Start) → let t = now (s .args .table) in let at = s .args .at in
-    items t at ≡ ask (lengthWithin 0 (u16 t (at + 4))) (λ v. times (natural v) (one (number (pos 0) 255)))
-row-items s =
-    items-octets (now (s .args .table)) (s .args .at) 0 (u16 (now (s .args .table)) (s .args .at + 4)) (octets-row (s .pre .0) (s .pre .1) (s .pre .2) .0)
+row-items : (s : tie.Start) → items (now (s .args .table)) (s .args .at) ≡ ask (lengthCode s) (λ v. times (natural v) (one (number (pos 0) 255)))
+unfolding lengthCode
+row-items s = items-octets (now (s .args .table)) (s .args .at) _ _ (octets-row (s .pre .0) (s .pre .1) (s .pre .2) .0)
 
 returns : tie.Need-returns
 returns c =
@@ -32,10 +36,20 @@ returns c =
     first-missing _ _ (row-items (c .before .before .before .before .before .before .before))
     (next .result) (c .missing .result) (next .ensures) (c .before .enum-told .given .1) (c .missing .ensures)
 
-count-at-requires : tie.Need-count-at-requires
-count-at-requires c κs =
+least-at-requires : tie.Need-least-at-requires
+least-at-requires c κs =
     let s = c .before .before .before .before .before .before .before in
     omega (arith, octets-row (s .pre .0) (s .pre .1) (s .pre .2) .1)
+
+count-at-requires : tie.Need-count-at-requires
+count-at-requires c κs =
+    let s = c .before .before .before .before .before .before .before .before in
+    omega (arith, octets-row (s .pre .0) (s .pre .1) (s .pre .2) .1)
+
+-- the code that is written, as the row has it
+length-asked : (c : tie.After-count-at) → lengthWithin (c .before .least-at .result) (c .count-at .result) ≡ lengthCode (c .before .before .before .before .before .before .before .before .before)
+unfolding lengthCode
+length-asked c = rw (c .before .least-at .ensures, c .count-at .ensures .0)
 
 -- the length as the code holds it
 value-held : (c : tie.After-known-told) → toZ w64 (ofZ w64 (c .before .given .given .0 .0)) ≡ c .before .given .given .0 .0
@@ -43,22 +57,22 @@ value-held c = held (c .before .given .given .0 .0) (c .known-told .given .0 .1)
 
 -- the length, put
 value-put : (c : tie.After-moved)
-    → let told = c .before .before .before .before .before .before in
-    let a = told .before .before .before .before .before .before .before .args in
-    Putting (lengthWithin 0 (u16 (now (a .table)) (a .at + 4))) (listIn (now (a .values)) (now (a .packed))) (stateAt (a .cursor) (now (a .output)))
+    → let told = c .before .before .before .before .before .before .before in
+    let s = told .before .before .before .before .before .before .before in let a = s .args in
+    Putting (lengthCode s) (listIn (now (a .values)) (now (a .packed))) (stateAt (a .cursor) (now (a .output)))
     (c .before .before .before .length .last .0) (told .before .given .given .0 .0) (c .moved .result)
 value-put c =
     let put = c .before .before .before .length in
     let most = c .before .before .before .before .before in
-    let told = most .before in
+    let told = most .before .before in
     let next = told .before .before .before .next-value in
-    putting _ (next .result) (put .result) _ _ (ap (lengthWithin 0) (most .count-at .ensures .0))
+    putting _ (next .result) (put .result) _ _ (length-asked most)
     (next .ensures) (told .before .given .given .1) (value-held told) (put .ensures) (c .moved .ensures)
 
 returns-2 : tie.Need-returns-2
 returns-2 c =
     let moved = c .before .before in
-    let s = moved .before .before .before .before .before .before .before .before .before .before .before .before .before in
+    let s = moved .before .before .before .before .before .before .before .before .before .before .before .before .before .before in
     rw (c .enum-told2 .given .1) (first-refused _ _ (row-items s) (value-put moved) (c .enum-told2 .given .1))
 
 returns-3 : tie.Need-returns-3
@@ -66,7 +80,7 @@ returns-3 c =
     let octets = c .before .before .write-octets in
     let count = c .before .before .before .before in
     let moved = count .before .before .before .before in
-    let told = moved .before .before .before .before .before .before in
+    let told = moved .before .before .before .before .before .before .before in
     let s = told .before .before .before .before .before .before .before in
     first-put _ _ (row-items s) (value-put moved) (count .before .before .step .given .1) .complete _ _ (rw (rw (value-held told) at (count .count-of .ensures)) at (octets .ensures))
 
@@ -79,6 +93,7 @@ octets-spec =
     (λ c. search needs)
     (λ c κs. search needs)
     returns
+    least-at-requires
     count-at-requires
     (λ c. search needs)
     (λ c κs. search needs)

@@ -12,6 +12,7 @@ use denote.Ref.{now}
 use lib.ListN.{length, getD}
 use Rattle.octets.specs.Numbers.{u16}
 use Rattle.bits.specs.Bits.{bitsOf}
+use Rattle.row.proofs.Bools.{inside-within}
 use Rattle.rules.specs.Rules.{Starts}
 use Rattle.table.proofs.Obeyed.{earlier-starts, row-starts-inside, number-row, variable-row, record-row}
 use Rattle.items.specs.Items.{_then_, times}
@@ -143,12 +144,14 @@ write-field-number-requires t c κs =
 
 write-field-octets-requires : (t : ℕ) → write-field-lts.Need-octets-requires (write-field-known t) (write-field-at t) write-field.Post
 write-field-octets-requires t c κs =
-    let s = c .before .before .before .before .before .before .before in
-    (s .pre .1 .0, field-starts t s, sym (c .before .before .kind-at .ensures .0) ∙ c .before .match .keys3, search needs)
+    let s = c .before .before .before .before .before .before .before .before .before in
+    let kind = c .before .before .before .before .kind-at in
+    let octets = inside-within 7 8 (kind .result) (omega (arith, c .before .before .if2 .left)) (omega (arith, c .before .if3 .taken)) in
+    (s .pre .1 .0, field-starts t s, rw (kind .ensures .0) at octets, search needs)
 
 write-field-write-row-requires : (t : ℕ) → write-field-lts.Need-write-row-requires (write-field-known t) (write-field-at t) write-field.Post
 write-field-write-row-requires t c κs =
-    let s = c .before .before .before .before .before .before .before in
+    let s = c .before .before .before .before .before .before .before .before in
     (omega (arith, s .pre .0, s .pre .1 .2 .1), (s .pre .1 .0, field-starts t s, search needs))
 
 write-field-returns-2 : (t : ℕ) → write-field-lts.Need-returns-2 (write-field-known t) (write-field-at t) write-field.Post
@@ -167,12 +170,12 @@ write-field-returns-3 t c =
 
 write-field-returns-4 : (t : ℕ) → write-field-lts.Need-returns-4 (write-field-known t) (write-field-at t) write-field.Post
 write-field-returns-4 t c =
-    let tested = c .before .before .before .before .before .before in
+    let tested = c .before .before .before .before .before .before .before .before in
     rw (not-false (tested .before .before .before .before .args .present) (tested .if1 .left)) (c .before .before .octets .ensures)
 
 write-field-returns-5 : (t : ℕ) → write-field-lts.Need-returns-5 (write-field-known t) (write-field-at t) write-field.Post
 write-field-returns-5 t c =
-    let tested = c .before .before .before .before .before .before in
+    let tested = c .before .before .before .before .before .before .before in
     rw (not-false (tested .before .before .before .before .args .present) (tested .if1 .left)) (c .before .before .write-row .ensures)
 
 -- ── the fields of a record ──
