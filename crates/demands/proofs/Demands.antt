@@ -14,6 +14,7 @@ use Rattle.items.proofs.Filled.{filled-up, zeros-after}
 use Rattle.encoding.proofs.Demand3.{demand3}
 use Rattle.encoding.proofs.Demand3Octets.{demand3-octets}
 use Rattle.encoding.proofs.UnderTable.{under-table}
+use Rattle.encoding.proofs.OpenOctets.{open-octets}
 use Rattle.visits.proofs.Visits.{visits}
 use Rattle.visits.proofs.Reached.{reached}
 use Rattle.builtin.proofs.Tables.{built-in}
@@ -40,6 +41,7 @@ demands = record {
   tables = checks;
   underTables = under-table;
   tableCases = tables-given;
+  openOctets = open-octets;
   depths = depths;
   ranges = item-ranges;
   width = smallest-width;

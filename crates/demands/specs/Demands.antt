@@ -5,6 +5,7 @@
 -- docs/CLAIMS.md lists them, and a test holds the list to the sources.
 -- The theorems here are about the definitions that those contracts cite (readCall, writeCall, valuesAfter, packedAfter,
 -- outputAfter, readLmCall, writeLmCall, userDataFound, verdict) and about the rules of documents 01 and 02, which mention no code.
+-- Document 01 is meant as document 02's landed tickets change it: kinds of rows are 1 to 8.
 --
 -- Beside it stands what is said of the bench program's text: OneText, in stream's specs/Program.antt.
 use Prim.Native.Nat.{ℕ}
@@ -20,10 +21,12 @@ use Rattle.rules.specs.Depths.{Depths}
 use Rattle.table.specs.Checks.{Checks}
 use Rattle.table.specs.Cases.{TablesGiven}
 use Rattle.encoding.specs.Demand2.{Demand2}
+use Rattle.items.specs.Items.{Items}
 use Rattle.items.specs.Filled.{FilledUp, ZerosAfter}
 use Rattle.encoding.specs.Demand3.{AreOctets, Demand3}
 use Rattle.encoding.specs.Demand3Octets.{Demand3Octets}
 use Rattle.encoding.specs.UnderTable.{UnderTable}
+use Rattle.encoding.specs.OpenOctets.{OpenOctets}
 use Rattle.visits.specs.Visits.{Visits}
 use Rattle.visits.specs.Reached.{Reached}
 use Rattle.builtin.specs.Built.{BuiltIn}
@@ -69,7 +72,7 @@ pub record Demands : Type 1 where
   -- the user data of an LM: where it stands, and what its calls give
   pub userDataPlace : UserDataPlace
   pub userData : UserDataPlaced
-  -- the twelve marked cases, and where the user data stands in those that are LMs
+  -- the papers' cases, and where the user data stands in those that are LMs
   pub cases : Given
   pub userDataCases : UserDataCases
   -- ── document 02, ticket 1 ──
@@ -79,6 +82,9 @@ pub record Demands : Type 1 where
   pub underTables : (t : List ℕ) → UnderTable t
   -- the corners, computed
   pub tableCases : TablesGiven
+  -- ── document 02, ticket 2 ──
+  -- open octets, kind 8, are octets, kind 7, but for a most or a length of 0: under the check, in lists and bits, read and written
+  pub openOctets : (t : List ℕ) (o : ℕ) (g : ℕ → Items) → OpenOctets t o g
   -- ── beside the demands ──
   -- how many rows are visited at most, counted over the definitions, and that it may be so many
   pub visits : (t : List ℕ) → Visits t

@@ -15,7 +15,7 @@ use Rattle.octets.specs.Numbers.{u16, u32, u16s, signed, there}
 use Rattle.octets.proofs.Numbers.{u16-lt, u32-lt, length-u16s, mag-signed}
 use Rattle.item.specs.Code.{Code, number, variable, lengthWithin, index, lowOf, allowsOffset, ofNatural, allows}
 use Rattle.item.proofs.Integers.{value-is, mag-add}
-use Rattle.row.specs.Rows.{Row, rowOf, rowAt}
+use Rattle.row.specs.Rows.{Row, Octets, rowOf, rowAt}
 use Rattle.values.specs.TwosComplement.{Fitting}
 use Rattle.values.proofs.Stores.{fitting-cons}
 use Rattle.items.specs.Items.{Items, stop, ask, Allows}
@@ -57,6 +57,9 @@ module _ (t : List ℕ) (octets : AreOctets t) where
   either true x y h k = h
   either false x y h k = k
 
+  octets-fit : (least most : ℕ) → Codes Fits (Octets least most)
+  octets-fit least most = (length-fits least most, number-fits (pos 0) 255 (omega arith) (omega arith))
+
   row-fits : (o : ℕ) → Codes Fits (rowAt t o)
   unfolding rowAt rowOf
   row-fits o =
@@ -67,8 +70,9 @@ module _ (t : List ℕ) (octets : AreOctets t) where
       (either (eqb kind 4) _ _ (length-fits 0 (u16 t (o + 4)))
       (either (eqb kind 5) _ _ (number-fits (pos 0) 1 (omega arith) (omega arith))
       (either (eqb kind 6) _ _ (index-fits (map there (u16s t (o + 6) 2 (u16 t (o + 4)))) (branches-few o))
-      (either (eqb kind 7) _ _ (length-fits 0 (u16 t (o + 4)), number-fits (pos 0) 255 (omega arith) (omega arith))
-      tt))))))
+      (either (eqb kind 7) _ _ (octets-fit 0 (u16 t (o + 4)))
+      (either (eqb kind 8) _ _ (octets-fit 1 (u16 t (o + 4)))
+      tt)))))))
 
   allowed-fit : (p : Items) → Every Fits p → (vs : List ℤ) → Allows p vs → Fitting vs
   allowed-fit stop h [] a = λ i. omega arith

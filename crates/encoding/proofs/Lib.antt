@@ -5,3 +5,4 @@ pub mod Demand3
 pub mod Demand3Octets
 pub mod Demand2
 pub mod UnderTable
+pub mod OpenOctets

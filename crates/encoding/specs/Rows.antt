@@ -1,6 +1,7 @@
 -- What each kind of row asks for (document 01, "Bits and values"), and what a table does: that of its last row.
 -- X.691: a record is a SEQUENCE, 19 (the presence bits of its optional fields, then the fields); a choice, 23; a fixed run a
--- SEQUENCE OF of one size and a counted run one with no size constraint, 20; octets an OCTET STRING with none, 17.
+-- SEQUENCE OF of one size and a counted run one with no size constraint, 20; octets an OCTET STRING with none, 17, and where the least
+-- length is 1 an open type, 11.2, whose octets are not looked into.
 use Prim.Native.Nat.{ℕ, zero, suc}
 use mathlib.Core.Bool.{Bool, true, false}
 use mathlib.Core.List.{List, [], _∷_, map}
