@@ -1,11 +1,12 @@
 -- What holds of the built-in tables (document 01, "LM, SAM and SRM": all three pass the check): each passes, obeys the rules, is the
--- rows that Layout.antt lists and no others, and ends with its root. The proof is proofs/Tables.antt.
+-- rows that Layout.antt lists and no others, and ends with its root; and which of their octets may be empty. The proof is
+-- proofs/Tables.antt.
 use Prim.Native.Nat.{ℕ, _+_}
 use mathlib.Core.Path.{_≡_}
 use mathlib.Core.List.{List, [], _∷_}
 use lib.ListN.{length}
 use Rattle.answer.specs.Numbers.{accepted}
-use Rattle.row.specs.Rows.{Row, rowAt, rowLength}
+use Rattle.row.specs.Rows.{Row, Octets, rowAt, rowLength}
 use Rattle.rules.specs.Rules.{Obeys}
 use Rattle.table.specs.Verdict.{verdict, checked}
 use Rattle.table.specs.Root.{IsRoot}
@@ -24,7 +25,18 @@ pub record Built (table : List ℕ) (list : List (ℕ × Row)) (last : ℕ) : Ty
   pub listed : Rows table 0 list
   pub root : IsRoot table last
 
+-- which octets may be empty (document 02, ticket 2): never an element's contents, nor a context's data in an SRM; but an LM's user
+-- data and a SAM's system service
+pub record MayBeEmpty : Type 0 where
+  pub lmContents : rowAt lm 24 ≡ Octets 1 16383
+  pub samContents : rowAt sam 24 ≡ Octets 1 16383
+  pub srmContents : rowAt srm 24 ≡ Octets 1 16383
+  pub contextData : rowAt srm 90 ≡ Octets 1 16383
+  pub userData : rowAt lm 540 ≡ Octets 0 16383
+  pub systemService : rowAt sam 94 ≡ Octets 0 16383
+
 pub record BuiltIn : Type 0 where
   pub anLm : Built lm lmRows 546
   pub aSam : Built sam samRows 342
   pub anSrm : Built srm srmRows 180
+  pub empty : MayBeEmpty

@@ -1,4 +1,4 @@
--- The built-in tables row by row (document 01, "LM, SAM and SRM"): each row with its offset. That the octets of
+-- The built-in tables row by row (document 01, "LM, SAM and SRM"; document 02, ticket 2): each row with its offset. That the octets of
 -- Tables.antt are these rows is stated in Built.antt. docs/MESSAGES.md has the ground of each.
 use Prim.Native.Nat.{ℕ}
 use mathlib.Core.List.{List, [], _∷_}
@@ -11,7 +11,7 @@ unfoldable pub lmRows : List (ℕ × Row)
 lmRows =
     (0, Number (pos 0) 255)  -- octet
     ∷ (12, Number (pos 0) 65535)  -- two octets
-    ∷ (24, Octets 0 16383)  -- element contents
+    ∷ (24, Octets 1 16383)  -- element contents
     ∷ (30, Record (0 ∷ 24 ∷ []) (0 ∷ 0 ∷ []))  -- extension element
     ∷ (44, CountedRun 255 30)  -- extensions
     ∷ (52, Number (pos 0) 7)  -- version
@@ -36,7 +36,7 @@ unfoldable pub samRows : List (ℕ × Row)
 samRows =
     (0, Number (pos 0) 255)  -- octet
     ∷ (12, Number (pos 0) 65535)  -- two octets
-    ∷ (24, Octets 0 16383)  -- element contents
+    ∷ (24, Octets 1 16383)  -- element contents
     ∷ (30, Record (0 ∷ 24 ∷ []) (0 ∷ 0 ∷ []))  -- extension element
     ∷ (44, CountedRun 255 30)  -- extensions
     ∷ (52, Number (pos 0) 15)  -- version, SAM-ID, SAM-Count
@@ -66,14 +66,14 @@ unfoldable pub srmRows : List (ℕ × Row)
 srmRows =
     (0, Number (pos 0) 255)  -- octet
     ∷ (12, Number (pos 0) 65535)  -- two octets
-    ∷ (24, Octets 0 16383)  -- element contents
+    ∷ (24, Octets 1 16383)  -- element contents
     ∷ (30, Record (0 ∷ 24 ∷ []) (0 ∷ 0 ∷ []))  -- extension element
     ∷ (44, CountedRun 255 30)  -- extensions
     ∷ (52, Number (pos 0) 15)  -- version
     ∷ (64, Variable)  -- ITS-AID
     ∷ (68, CountedRun 16383 64)  -- ITS-AIDs
     ∷ (76, Record (12 ∷ 68 ∷ []) (0 ∷ 0 ∷ []))  -- private channel request
-    ∷ (90, Octets 0 16383)  -- context data
+    ∷ (90, Octets 1 16383)  -- context data
     ∷ (96, Record (64 ∷ 0 ∷ []) (0 ∷ 0 ∷ []))  -- context reference
     ∷ (110, Record (96 ∷ 90 ∷ 12 ∷ []) (0 ∷ 0 ∷ 0 ∷ []))  -- context set
     ∷ (128, CountedRun 16383 110)  -- context information

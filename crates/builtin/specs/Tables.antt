@@ -8,7 +8,7 @@ unfoldable pub lm : List ℕ
 lm =
     12 ∷ 0 ∷ 1 ∷ 0 ∷ 0 ∷ 0 ∷ 0 ∷ 0 ∷ 255 ∷ 0 ∷ 0 ∷ 0  -- 0 octet
     ∷ 12 ∷ 0 ∷ 1 ∷ 0 ∷ 0 ∷ 0 ∷ 0 ∷ 0 ∷ 255 ∷ 255 ∷ 0 ∷ 0  -- 12 two octets
-    ∷ 6 ∷ 0 ∷ 7 ∷ 0 ∷ 255 ∷ 63  -- 24 element contents
+    ∷ 6 ∷ 0 ∷ 8 ∷ 0 ∷ 255 ∷ 63  -- 24 element contents
     ∷ 14 ∷ 0 ∷ 5 ∷ 0 ∷ 2 ∷ 0 ∷ 0 ∷ 0 ∷ 0 ∷ 0 ∷ 24 ∷ 0 ∷ 0 ∷ 0  -- 30 extension element
     ∷ 8 ∷ 0 ∷ 4 ∷ 0 ∷ 255 ∷ 0 ∷ 30 ∷ 0  -- 44 extensions
     ∷ 12 ∷ 0 ∷ 1 ∷ 0 ∷ 0 ∷ 0 ∷ 0 ∷ 0 ∷ 7 ∷ 0 ∷ 0 ∷ 0  -- 52 version
@@ -41,7 +41,7 @@ unfoldable pub sam : List ℕ
 sam =
     12 ∷ 0 ∷ 1 ∷ 0 ∷ 0 ∷ 0 ∷ 0 ∷ 0 ∷ 255 ∷ 0 ∷ 0 ∷ 0  -- 0 octet
     ∷ 12 ∷ 0 ∷ 1 ∷ 0 ∷ 0 ∷ 0 ∷ 0 ∷ 0 ∷ 255 ∷ 255 ∷ 0 ∷ 0  -- 12 two octets
-    ∷ 6 ∷ 0 ∷ 7 ∷ 0 ∷ 255 ∷ 63  -- 24 element contents
+    ∷ 6 ∷ 0 ∷ 8 ∷ 0 ∷ 255 ∷ 63  -- 24 element contents
     ∷ 14 ∷ 0 ∷ 5 ∷ 0 ∷ 2 ∷ 0 ∷ 0 ∷ 0 ∷ 0 ∷ 0 ∷ 24 ∷ 0 ∷ 0 ∷ 0  -- 30 extension element
     ∷ 8 ∷ 0 ∷ 4 ∷ 0 ∷ 255 ∷ 0 ∷ 30 ∷ 0  -- 44 extensions
     ∷ 12 ∷ 0 ∷ 1 ∷ 0 ∷ 0 ∷ 0 ∷ 0 ∷ 0 ∷ 15 ∷ 0 ∷ 0 ∷ 0  -- 52 version, SAM-ID, SAM-Count
@@ -71,14 +71,14 @@ unfoldable pub srm : List ℕ
 srm =
     12 ∷ 0 ∷ 1 ∷ 0 ∷ 0 ∷ 0 ∷ 0 ∷ 0 ∷ 255 ∷ 0 ∷ 0 ∷ 0  -- 0 octet
     ∷ 12 ∷ 0 ∷ 1 ∷ 0 ∷ 0 ∷ 0 ∷ 0 ∷ 0 ∷ 255 ∷ 255 ∷ 0 ∷ 0  -- 12 two octets
-    ∷ 6 ∷ 0 ∷ 7 ∷ 0 ∷ 255 ∷ 63  -- 24 element contents
+    ∷ 6 ∷ 0 ∷ 8 ∷ 0 ∷ 255 ∷ 63  -- 24 element contents
     ∷ 14 ∷ 0 ∷ 5 ∷ 0 ∷ 2 ∷ 0 ∷ 0 ∷ 0 ∷ 0 ∷ 0 ∷ 24 ∷ 0 ∷ 0 ∷ 0  -- 30 extension element
     ∷ 8 ∷ 0 ∷ 4 ∷ 0 ∷ 255 ∷ 0 ∷ 30 ∷ 0  -- 44 extensions
     ∷ 12 ∷ 0 ∷ 1 ∷ 0 ∷ 0 ∷ 0 ∷ 0 ∷ 0 ∷ 15 ∷ 0 ∷ 0 ∷ 0  -- 52 version
     ∷ 4 ∷ 0 ∷ 2 ∷ 0  -- 64 ITS-AID
     ∷ 8 ∷ 0 ∷ 4 ∷ 0 ∷ 255 ∷ 63 ∷ 64 ∷ 0  -- 68 ITS-AIDs
     ∷ 14 ∷ 0 ∷ 5 ∷ 0 ∷ 2 ∷ 0 ∷ 12 ∷ 0 ∷ 0 ∷ 0 ∷ 68 ∷ 0 ∷ 0 ∷ 0  -- 76 private channel request
-    ∷ 6 ∷ 0 ∷ 7 ∷ 0 ∷ 255 ∷ 63  -- 90 context data
+    ∷ 6 ∷ 0 ∷ 8 ∷ 0 ∷ 255 ∷ 63  -- 90 context data
     ∷ 14 ∷ 0 ∷ 5 ∷ 0 ∷ 2 ∷ 0 ∷ 64 ∷ 0 ∷ 0 ∷ 0 ∷ 0 ∷ 0 ∷ 0 ∷ 0  -- 96 context reference
     ∷ 18 ∷ 0 ∷ 5 ∷ 0 ∷ 3 ∷ 0 ∷ 96 ∷ 0 ∷ 0 ∷ 0 ∷ 90 ∷ 0 ∷ 0 ∷ 0 ∷ 12 ∷ 0 ∷ 0 ∷ 0  -- 110 context set
     ∷ 8 ∷ 0 ∷ 4 ∷ 0 ∷ 255 ∷ 63 ∷ 110 ∷ 0  -- 128 context information

@@ -1,4 +1,4 @@
-// The built-in tables (document 01, "LM, SAM and SRM"), as octets. docs/MESSAGES.md has the ground of each row.
+// The built-in tables (document 01, "LM, SAM and SRM"; document 02, ticket 2), as octets. docs/MESSAGES.md has the ground of each row.
 // The comment above a table lists its rows: offset, what the row is, its kind and numbers, where (n) is a reference to the
 // row at n. The string has a row a line, in that order; the T-Header's 128 branches take eight lines more.
 // The first five rows are the same in all three. specs/Tables.antt has the octets as lists, specs/Layout.antt the rows.
@@ -9,7 +9,7 @@ ghost use Rattle.builtin.specs.Tables.{lm, sam, srm};
 //
 //   0 octet: number 0 to 255
 //  12 two octets: number 0 to 65,535
-//  24 element contents: octets, most 16,383
+//  24 element contents: open octets, most 16,383
 //  30 extension element: record of ID (0), contents (24)
 //  44 extensions: counted run, most 255, of (30)
 //  52 version: number 0 to 7
@@ -31,7 +31,7 @@ ghost use Rattle.builtin.specs.Tables.{lm, sam, srm};
 pub const LM: [u8; 564] = *b"\
     \x0c\x00\x01\x00\x00\x00\x00\x00\xff\x00\x00\x00\
     \x0c\x00\x01\x00\x00\x00\x00\x00\xff\xff\x00\x00\
-    \x06\x00\x07\x00\xff\x3f\
+    \x06\x00\x08\x00\xff\x3f\
     \x0e\x00\x05\x00\x02\x00\x00\x00\x00\x00\x18\x00\x00\x00\
     \x08\x00\x04\x00\xff\x00\x1e\x00\
     \x0c\x00\x01\x00\x00\x00\x00\x00\x07\x00\x00\x00\
@@ -62,7 +62,7 @@ pub const LM: [u8; 564] = *b"\
 //
 //   0 octet: number 0 to 255
 //  12 two octets: number 0 to 65,535
-//  24 element contents: octets, most 16,383
+//  24 element contents: open octets, most 16,383
 //  30 extension element: record of ID (0), contents (24)
 //  44 extensions: counted run, most 255, of (30)
 //  52 version, SAM-ID, SAM-Count: number 0 to 15
@@ -91,7 +91,7 @@ pub const LM: [u8; 564] = *b"\
 pub const SAM: [u8; 356] = *b"\
     \x0c\x00\x01\x00\x00\x00\x00\x00\xff\x00\x00\x00\
     \x0c\x00\x01\x00\x00\x00\x00\x00\xff\xff\x00\x00\
-    \x06\x00\x07\x00\xff\x3f\
+    \x06\x00\x08\x00\xff\x3f\
     \x0e\x00\x05\x00\x02\x00\x00\x00\x00\x00\x18\x00\x00\x00\
     \x08\x00\x04\x00\xff\x00\x1e\x00\
     \x0c\x00\x01\x00\x00\x00\x00\x00\x0f\x00\x00\x00\
@@ -119,14 +119,14 @@ pub const SAM: [u8; 356] = *b"\
 //
 //   0 octet: number 0 to 255
 //  12 two octets: number 0 to 65,535
-//  24 element contents: octets, most 16,383
+//  24 element contents: open octets, most 16,383
 //  30 extension element: record of ID (0), contents (24)
 //  44 extensions: counted run, most 255, of (30)
 //  52 version: number 0 to 15
 //  64 ITS-AID: variable number
 //  68 ITS-AIDs: counted run, most 16,383, of (64)
 //  76 private channel request: record of port (12), ITS-AIDs (68)
-//  90 context data: octets, most 16,383
+//  90 context data: open octets, most 16,383
 //  96 context reference: record of ITS-AID (64), context ID (0)
 // 110 context set: record of reference (96), context data (90), client port (12)
 // 128 context information: counted run, most 16,383, of (110)
@@ -138,14 +138,14 @@ pub const SAM: [u8; 356] = *b"\
 pub const SRM: [u8; 194] = *b"\
     \x0c\x00\x01\x00\x00\x00\x00\x00\xff\x00\x00\x00\
     \x0c\x00\x01\x00\x00\x00\x00\x00\xff\xff\x00\x00\
-    \x06\x00\x07\x00\xff\x3f\
+    \x06\x00\x08\x00\xff\x3f\
     \x0e\x00\x05\x00\x02\x00\x00\x00\x00\x00\x18\x00\x00\x00\
     \x08\x00\x04\x00\xff\x00\x1e\x00\
     \x0c\x00\x01\x00\x00\x00\x00\x00\x0f\x00\x00\x00\
     \x04\x00\x02\x00\
     \x08\x00\x04\x00\xff\x3f\x40\x00\
     \x0e\x00\x05\x00\x02\x00\x0c\x00\x00\x00\x44\x00\x00\x00\
-    \x06\x00\x07\x00\xff\x3f\
+    \x06\x00\x08\x00\xff\x3f\
     \x0e\x00\x05\x00\x02\x00\x40\x00\x00\x00\x00\x00\x00\x00\
     \x12\x00\x05\x00\x03\x00\x60\x00\x00\x00\x5a\x00\x00\x00\x0c\x00\x00\x00\
     \x08\x00\x04\x00\xff\x3f\x6e\x00\

@@ -1,4 +1,4 @@
--- Document 01's twelve marked cases come out of the definitions, by computation.
+-- The papers' cases come out of the definitions, by computation.
 -- Assumes nothing.
 use mathlib.Core.Path.{refl}
 use Rattle.octets.specs.Numbers.{u16, u32, signed, u16s, there}
@@ -13,9 +13,9 @@ use Rattle.items.specs.Items.{one, times}
 use Rattle.encoding.specs.Rows.{presence, fields, rowItems, items, asks}
 use Rattle.encoding.specs.Reading.{readOutcome}
 use Rattle.builtin.specs.Tables.{lm}
-use Rattle.lm.specs.ByName.{lmVersion, lmSubtype, readLmOutcome}
+use Rattle.lm.specs.ByName.{lmVersion, lmSubtype, readLmOutcome, writeLmOutcome}
 use Rattle.lm.specs.Cases.{cases, Given}
 
 pub given : Given
-unfolding cases lm lmVersion lmSubtype readLmOutcome readOutcome asks items rowItems fields presence times one rootFrom root verdict rowVerdict rowDepth hasBranch someBranch references branches numbersInBounds flagsInBounds within knownKind rowLength rowAt rowOf earlier upTo byOffset there unpack width bitsOf numberOf u16 u32 signed u16s
-given = record { outcomes = refl }
+unfolding cases lm lmVersion lmSubtype readLmOutcome writeLmOutcome readOutcome asks items rowItems fields presence times one rootFrom root verdict rowVerdict rowDepth hasBranch someBranch references branches numbersInBounds flagsInBounds within knownKind rowLength rowAt rowOf earlier upTo byOffset there unpack width bitsOf numberOf u16 u32 signed u16s
+given = record { outcomes = refl; unwrittenEmpty = refl }

@@ -83,31 +83,33 @@ length-bits least most n = go (leb n 127) refl
         go′ false q = refl
 
 -- as many as a length says, each as F says
-module _ {p : Items} {A : Type 0} {F : A → Type 0} {v : A → List ℤ} {b : A → List Bool} (most : ℕ) (small : most ≤ 16383) (each : Spells p F v b) where
+module _ {p : Items} {A : Type 0} {F : A → Type 0} {v : A → List ℤ} {b : A → List Bool} (least most : ℕ) (small : most ≤ 16383) (each : Spells p F v b) where
   abbrev RunFine : List A → Type 0
-  RunFine xs = Each F xs × (length xs ≤ most)
+  RunFine xs = Each F xs × (least ≤ length xs) × (length xs ≤ most)
 
-  within-most : (n : ℕ) → n ≤ most → allowsOffset (lengthWithin 0 most) n ≡ true
-  within-most n h = rw (le-leb 0 n (omega arith), le-leb n (min most 16383) (omega arith))
+  within-limits : (n : ℕ) → least ≤ n → n ≤ most → allowsOffset (lengthWithin least most) n ≡ true
+  within-limits n l h = rw (le-leb least n l, le-leb n (min most 16383) (omega arith))
 
-  most-within : (n : ℕ) → allowsOffset (lengthWithin 0 most) n ≡ true → n ≤ most
-  most-within n h = omega (arith, leb-true n (min most 16383) (and-eq-true-iff (leb 0 n) (leb n (min most 16383)) .0 h .1))
+  limits-within : (n : ℕ) → allowsOffset (lengthWithin least most) n ≡ true → (least ≤ n) × (n ≤ most)
+  limits-within n h =
+      let w = and-eq-true-iff (leb least n) (leb n (min most 16383)) .0 h in
+      (leb-true least n (w .0), omega (arith, leb-true n (min most 16383) (w .1)))
 
-  pub spells-run : Spells (ask (lengthWithin 0 most) (λ v. times (natural v) p)) RunFine (λ xs. pos (length xs) ∷ inOrder (map v xs)) (λ xs. lengthBits (length xs) ++ inOrder (map b xs))
+  pub spells-run : Spells (ask (lengthWithin least most) (λ v. times (natural v) p)) RunFine (λ xs. pos (length xs) ∷ inOrder (map v xs)) (λ xs. lengthBits (length xs) ++ inOrder (map b xs))
   spells-run =
       spells-as
-      (spells-ask {F = RunFine} (lengthWithin 0 most) (λ v. times (natural v) p) (λ xs. pos (length xs))
-      (λ xs h. allows-natural (lengthWithin 0 most) refl (length xs) (within-most (length xs) (h .1))) next)
-      (λ xs h. (xs, h, refl, ap (_++ inOrder (map b xs)) (length-bits 0 most (length xs) ∙ sym (bits-natural (lengthWithin 0 most) refl (length xs)))))
+      (spells-ask {F = RunFine} (lengthWithin least most) (λ v. times (natural v) p) (λ xs. pos (length xs))
+      (λ xs h. allows-natural (lengthWithin least most) refl (length xs) (within-limits (length xs) (h .1) (h .2))) next)
+      (λ xs h. (xs, h, refl, ap (_++ inOrder (map b xs)) (length-bits least most (length xs) ∙ sym (bits-natural (lengthWithin least most) refl (length xs)))))
       (λ xs h. (xs, h, refl))
     where
-      next : (t : ℤ) → allows (lengthWithin 0 most) t ≡ true → Spells (times (natural t) p) (λ xs. (pos (length xs) ≡ t) × RunFine xs) (λ xs. inOrder (map v xs)) (λ xs. inOrder (map b xs))
+      next : (t : ℤ) → allows (lengthWithin least most) t ≡ true → Spells (times (natural t) p) (λ xs. (pos (length xs) ≡ t) × RunFine xs) (λ xs. inOrder (map v xs)) (λ xs. inOrder (map b xs))
       next (pos n) h =
-          let m : n ≤ most = most-within n (allowed-natural (lengthWithin 0 most) refl n h) in
+          let m = limits-within n (allowed-natural (lengthWithin least most) refl n h) in
           spells-as (spells-times n each)
           (λ xs f. let q = f .0 in let e : length xs ≡ n = cc in (xs, (e, f .1 .0), refl, refl))
-          (λ xs f. (xs, (ap pos (f .0), (f .1, omega (arith, f .0))), refl))
-      next (negsuc n) h = absurd (not-negative (lengthWithin 0 most) refl n h)
+          (λ xs f. (xs, (ap pos (f .0), (f .1, omega (arith, f .0, m .0), omega (arith, f .0, m .1))), refl))
+      next (negsuc n) h = absurd (not-negative (lengthWithin least most) refl n h)
 
 octet-values : (os : List ℕ) → inOrder (map (λ n. pos n ∷ []) os) ≡ map pos os
 octet-values [] = refl
@@ -122,10 +124,10 @@ pub spells-octet : Spells (one (number (pos 0) 255)) (λ n. n ≤ 255) (λ n. po
 unfolding width
 spells-octet = spells-number 255
 
-pub spells-octets : Spells (ask (lengthWithin 0 16383) (λ v. times (natural v) (one (number (pos 0) 255))))
-    (λ os. Octets os × (length os ≤ 16383)) octetsValues (λ os. lengthBits (length os) ++ unpack os)
-spells-octets =
-    spells-as (spells-run 16383 (omega arith) spells-octet)
+pub spells-octets : (least : ℕ) → Spells (ask (lengthWithin least 16383) (λ v. times (natural v) (one (number (pos 0) 255))))
+    (λ os. Octets os × (least ≤ length os) × (length os ≤ 16383)) octetsValues (λ os. lengthBits (length os) ++ unpack os)
+spells-octets least =
+    spells-as (spells-run least 16383 (omega arith) spells-octet)
     (λ os h. (os, h, ap (pos (length os) ∷_) (sym (octet-values os)), ap (lengthBits (length os) ++_) (sym (octet-bits os))))
     (λ os h. (os, h, ap (pos (length os) ∷_) (sym (octet-values os))))
 

@@ -39,9 +39,9 @@ two-octets : Spells (items lm 12) (λ n. n ≤ 65535) (λ n. pos n ∷ []) (bits
 unfolding lm rowAt rowOf u16 u32 signed rowItems width
 two-octets = at 12 (Number (pos 0) 65535) refl (spells-number 65535)
 
-contents : Spells (items lm 24) (λ os. Octets os × (length os ≤ 16383)) octetsValues (λ os. lengthBits (length os) ++ unpack os)
+contents : Spells (items lm 24) (λ os. Octets os × (1 ≤ length os) × (length os ≤ 16383)) octetsValues (λ os. lengthBits (length os) ++ unpack os)
 unfolding lm rowAt rowOf u16 rowItems
-contents = at 24 (OctetsRow 0 16383) refl spells-octets
+contents = at 24 (OctetsRow 1 16383) refl (spells-octets 1)
 
 element : Spells (items lm 30) ElementWithin elementValues elementBits
 unfolding lm rowAt rowOf u16 u16s rowItems presence earlier
@@ -49,12 +49,16 @@ element =
     at 30 (Record (0 ∷ 24 ∷ []) (0 ∷ 0 ∷ [])) refl
     (spells-as
     (spells-field _ 0 _ _ octet (spells-field _ 24 _ _ contents (spells-end _)))
-    (λ e h. ((e .id, (e .contents, tt)), (h .id, ((h .contents, h .most), tt)), ap (pos (e .id) ∷_) (sym (append-nil (octetsValues (e .contents)))), simp append-assoc))
-    (λ x h. (record { id = x .0; contents = x .1 .0 }, record { id = h .0; contents = h .1 .0 .0; most = h .1 .0 .1 }, ap (pos (x .0) ∷_) (sym (append-nil (octetsValues (x .1 .0)))))))
+    (λ e h. ((e .id, (e .contents, tt)), (h .id, ((h .contents, h .least, h .most), tt)), ap (pos (e .id) ∷_) (sym (append-nil (octetsValues (e .contents)))), simp append-assoc))
+    (λ x h. (record { id = x .0; contents = x .1 .0 }, record { id = h .0; contents = h .1 .0 .0; least = h .1 .0 .1; most = h .1 .0 .2 }, ap (pos (x .0) ∷_) (sym (append-nil (octetsValues (x .1 .0)))))))
 
 extensions : Spells (items lm 44) (λ es. ExtensionsWithin (present es)) (λ es. extensionsValues (present es)) (λ es. extensionsBits (present es))
 unfolding lm rowAt rowOf u16 rowItems earlier
-extensions = at 44 (CountedRun 255 30) refl (spells-run 255 (omega arith) element)
+extensions =
+    at 44 (CountedRun 255 30) refl
+    (spells-as (spells-run 0 255 (omega arith) element)
+    (λ es h. (es, (h .0, omega arith, h .1), refl, refl))
+    (λ es h. (es, (h .0, h .2), refl)))
 
 -- ── null networking and N-hop forwarding ──
 
@@ -289,7 +293,11 @@ transport = at 278 (Choice transport-rows) refl (spells-choice (map there transp
 
 user-data : Spells (items lm 540) (λ os. Octets os × (length os ≤ 16383)) octetsValues (λ os. lengthBits (length os) ++ unpack os)
 unfolding lm rowAt rowOf u16 rowItems
-user-data = at 540 (OctetsRow 0 16383) refl spells-octets
+user-data =
+    at 540 (OctetsRow 0 16383) refl
+    (spells-as (spells-octets 0)
+    (λ os h. (os, (h .0, omega arith, h .1), refl, refl))
+    (λ os h. (os, (h .0, h .2), refl)))
 
 root-row : Spells (items lm 546) WellFormed valuesOf layoutBits
 unfolding lm rowAt rowOf u16 u16s rowItems presence earlier valuesOf layoutBits

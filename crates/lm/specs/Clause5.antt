@@ -1,4 +1,5 @@
--- The layout of an LM by the figures of ISO 16460:2021, clause 5, field by field, and document 01's ranges and values for it.
+-- The layout of an LM by the figures of ISO 16460:2021, clause 5, field by field, and document 01's ranges and values for it, with
+-- document 02's least length of an element's data (ticket 2).
 -- It knows nothing of any table: to be believed, this file is held against the figures. specs/Demand2.antt says that the
 -- built-in table of LM is this layout.
 -- The one-octet length goes up to 0x7F: the standard's 0xEF is a slip (document 01). Transport feature 2, the LPP header, is
@@ -15,7 +16,7 @@ use Rattle.bits.specs.Bits.{bitsOf, unpack}
 
 -- ── what an LM holds ──
 
--- an extension element (clause 7): its ID, and the octets of its extension data
+-- an extension element (clause 7): its ID, and the octets of its extension data, one or more
 pub record Element : Type 0 where
   pub id : ℕ
   pub contents : List ℕ
@@ -262,6 +263,7 @@ Octets os = Each (λ o. o ≤ 255) os
 pub record ElementWithin (e : Element) : Type 0 where
   pub id : e .id ≤ 255
   pub contents : Octets (e .contents)
+  pub least : 1 ≤ length (e .contents)
   pub most : length (e .contents) ≤ 16383
 
 abbrev pub ExtensionsWithin : Extensions → Type 0

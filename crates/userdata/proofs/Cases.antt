@@ -20,6 +20,7 @@ user-data-cases = record {
   p1-part = refl;
   p2-found = refl;
   p3-found = refl;
+  element-found = refl;
   version-found = refl;
   subtype-found = refl;
   empty-found = refl;

@@ -114,7 +114,7 @@ two-octets = at 12 (Number (pos 0) 65535) refl (omega arith)
 
 contents : Costs (items lm 24)
 unfolding lm rowAt rowOf u16
-contents = at 24 (Octets 0 16383) refl tt
+contents = at 24 (Octets 1 16383) refl tt
 
 element : Costs (items lm 30)
 unfolding lm rowAt rowOf u16 u16s earlier
