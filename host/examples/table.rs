@@ -76,6 +76,7 @@ impl Row<'_> {
             kind::RECORD => "record",
             kind::CHOICE => "choice",
             kind::OCTETS => "octets",
+            kind::OPEN_OCTETS => "open octets",
             _ => "unknown",
         }
     }
@@ -122,7 +123,7 @@ impl Row<'_> {
                     false => format!("{name} of {count}: {}", branches.join(", ")),
                 }
             }
-            kind::OCTETS => format!("{name}, most {count}"),
+            kind::OCTETS | kind::OPEN_OCTETS => format!("{name}, most {count}"),
             _ => name.to_string(),
         }
     }
@@ -138,7 +139,9 @@ impl Row<'_> {
             Refusal::WRONG_ROW_LENGTH => match (self.kind(), usize::from(count)) {
                 (kind::NUMBER, _) => format!("{name}, length {length}: it has 12"),
                 (kind::VARIABLE, _) => format!("{name}, length {length}: it has 4"),
-                (kind::OCTETS, _) => format!("{name}, length {length}: it has 6"),
+                (kind::OCTETS | kind::OPEN_OCTETS, _) => {
+                    format!("{name}, length {length}: it has 6")
+                }
                 (kind::FIXED_RUN | kind::COUNTED_RUN, _) => {
                     format!("{name}, length {length}: it has 8")
                 }

@@ -28,7 +28,7 @@ enum {
     TEYOLXAN_REFUSED_ABOVE_SPAN = 3,
     TEYOLXAN_REFUSED_NO_BRANCH = 4,
     TEYOLXAN_REFUSED_BAD_LENGTH = 5,
-    TEYOLXAN_REFUSED_ABOVE_MOST = 6,
+    TEYOLXAN_REFUSED_OUTSIDE_LIMITS = 6,
     TEYOLXAN_REFUSED_BAD_VARIABLE = 7,
     TEYOLXAN_REFUSED_NO_ROOM = 8,
     TEYOLXAN_REFUSED_NOT_PADDING = 9,
@@ -76,8 +76,8 @@ static inline const char *teyolxan_meaning(uint64_t number)
         return "an index is too high, or its branch is reserved";
     case TEYOLXAN_REFUSED_BAD_LENGTH:
         return "a length has a bad form";
-    case TEYOLXAN_REFUSED_ABOVE_MOST:
-        return "a count or length is above its limit";
+    case TEYOLXAN_REFUSED_OUTSIDE_LIMITS:
+        return "a count or length is outside its limits";
     case TEYOLXAN_REFUSED_BAD_VARIABLE:
         return "a variable number starts with 1111";
     case TEYOLXAN_REFUSED_NO_ROOM:

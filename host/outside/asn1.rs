@@ -19,6 +19,8 @@ pub struct Table {
 pub enum Types {
     /// In a module made from the rows, with this number in their names.
     Made(usize),
+    /// In a made module too: one type for the whole table.
+    Added(Added),
     /// In a module written by hand.
     Written(&'static Written),
 }
@@ -30,6 +32,59 @@ pub struct Written {
     pub name: &'static str,
     /// By a row's offset: its type, where that is an item of a run, and its fields or first branches.
     pub rows: &'static [(usize, &'static str, &'static [&'static str])],
+}
+
+/// A sequence of a number and, as an extension addition, a value of some type, which is an open type
+/// by its bits. The table has for it the extension bit, the number, the additions' count less one in
+/// seven bits, the addition's presence bit, and open octets: the value's own encoding.
+pub struct Added {
+    /// In the type's name.
+    pub number: usize,
+    /// The number's greatest value.
+    pub most: u32,
+    pub value: AddedType,
+}
+
+/// A type, and values of it with their encodings.
+#[derive(Clone)]
+pub struct AddedType {
+    pub notation: &'static str,
+    pub values: Vec<AddedValue>,
+}
+
+/// A value as the tools take it, and its encoding.
+#[derive(Clone)]
+pub struct AddedValue {
+    pub term: String,
+    pub xml: String,
+    pub octets: Vec<u8>,
+}
+
+impl Added {
+    /// The list with this number and this value.
+    pub fn list(&self, number: i64, value: &AddedValue) -> Vec<i64> {
+        let mut list = vec![1, number, 0, 1, value.octets.len() as i64];
+        list.extend(value.octets.iter().map(|&octet| i64::from(octet)));
+        list
+    }
+
+    fn definition(&self, name: &str) -> String {
+        format!(
+            "{name} ::= SEQUENCE {{ number INTEGER (0..{}), ..., value {} OPTIONAL }}\n",
+            self.most, self.value.notation
+        )
+    }
+
+    fn text(&self, name: &str, list: &[i64]) -> Text {
+        let of_list = |value: &&AddedValue| self.list(list[1], value) == list;
+        let value = self.value.values.iter().find(of_list);
+        let AddedValue { term, xml, .. } = value.expect("a value with this encoding");
+        let number = list[1];
+        Text {
+            term: format!("{{r,{number},{term}}}"),
+            xml: format!("<{name}><number>{number}</number><value>{xml}</value></{name}>"),
+        }
+    }
 }
 
 /// The values of a list that are still to come.
@@ -53,6 +108,7 @@ impl Table {
     pub fn type_name(&self, offset: usize) -> String {
         match &self.types {
             Types::Made(number) => format!("T{number}R{offset}"),
+            Types::Added(added) => format!("Added{}", added.number),
             Types::Written(module) if offset == self.root() => module.name.to_string(),
             Types::Written(module) => module.row(offset).0.to_string(),
         }
@@ -60,13 +116,16 @@ impl Table {
 
     fn field_name(&self, offset: usize, index: usize) -> String {
         match &self.types {
-            Types::Made(_) => format!("f{index}"),
             Types::Written(module) => module.row(offset).1[index].to_string(),
+            _ => format!("f{index}"),
         }
     }
 
     /// The definitions of all types that the root needs, for a made module.
     pub fn definitions(&self) -> String {
+        if let Types::Added(added) = &self.types {
+            return added.definition(&self.type_name(self.root()));
+        }
         let mut needed = vec![false; self.octets.len()];
         self.mark(self.root(), &mut needed);
         let rows = (0..needed.len()).filter(|&offset| needed[offset]);
@@ -124,7 +183,8 @@ impl Table {
                 let branches: Vec<String> = branches.iter().enumerate().map(branch).collect();
                 format!("CHOICE {{ {} }}", branches.join(", "))
             }
-            Row::Octets { .. } => "OCTET STRING".to_string(),
+            Row::Octets { least: 0, .. } => "OCTET STRING".to_string(),
+            Row::Octets { .. } => "OpenOctets".to_string(),
         }
     }
 
@@ -132,6 +192,9 @@ impl Table {
     pub fn text(&self, list: &[i64]) -> Text {
         let mut text = Text::default();
         let name = self.type_name(self.root());
+        if let Types::Added(added) = &self.types {
+            return added.text(&name, list);
+        }
         let values = &mut list.iter().copied();
         text.element(&name, |text| self.item(self.root(), values, text));
         assert_eq!(values.next(), None, "a value is left over");

@@ -2,12 +2,13 @@
 //! fixed seeds.
 
 use std::collections::BTreeSet;
+use std::ops::Range;
 
 use teyolxan_host::assemble::{Assembler, Offset};
 use teyolxan_host::random::{allowed_list, passing_table, Random};
 use teyolxan_host::reference::{number_width, root_of, VARIABLE_BASES, VARIABLE_MOST};
 
-use crate::asn1::{Table, Types};
+use crate::asn1::{Added, AddedType, AddedValue, Table, Types};
 use crate::messages;
 
 /// A table with the lists to be encoded under it.
@@ -38,6 +39,8 @@ pub fn all() -> Vec<Asked> {
     asking.numbers();
     asking.variable_numbers();
     asking.octets();
+    asking.open_octets();
+    asking.additions();
     asking.runs();
     asking.records();
     asking.choices();
@@ -56,15 +59,27 @@ impl Asking {
         octets: Vec<u8>,
         mut lists: Vec<Vec<i64>>,
     ) {
-        let number = self.asked.len();
         let mut seen = BTreeSet::new();
         lists.retain(|list| seen.insert(list.clone()));
+        let types = Types::Made(self.asked.len());
+        self.ask(module, kind, octets, types, lists);
+    }
+
+    fn ask(
+        &mut self,
+        module: &'static str,
+        kind: &str,
+        octets: Vec<u8>,
+        types: Types,
+        lists: Vec<Vec<i64>>,
+    ) {
+        let name = format!("{kind}-{}", self.asked.len());
         self.asked.push(Asked {
             module,
             table: Table {
-                name: format!("{kind}-{number}"),
+                name,
                 octets,
-                types: Types::Made(number),
+                types,
             },
             lists,
         });
@@ -170,10 +185,25 @@ impl Asking {
         }
     }
 
-    /// Octets of every length at an edge, alone and after 1 to 7 bits. Long ones are one octet many
-    /// times, to keep the stored file small.
     fn octets(&mut self) {
         let mut random = Random::new(SEED + 2);
+        self.octets_of(&mut random, "octets", Assembler::octets, 0);
+    }
+
+    fn open_octets(&mut self) {
+        let mut random = Random::new(SEED + 9);
+        self.octets_of(&mut random, "open", Assembler::open_octets, 1);
+    }
+
+    /// Octets of every length at an edge, alone and after 1 to 7 bits. Long ones are one octet many
+    /// times, to keep the stored file small.
+    fn octets_of(
+        &mut self,
+        random: &mut Random,
+        kind: &str,
+        row: fn(&mut Assembler, u16) -> Offset,
+        least: usize,
+    ) {
         let mut contents = |length: usize| -> Vec<i64> {
             let one = random.pick(&[0, 255]);
             let few = if length < 20 { length } else { 3 };
@@ -182,23 +212,52 @@ impl Asking {
             list.extend(random.octets(few).into_iter().map(i64::from));
             list
         };
+        let lengths = LENGTHS.into_iter().filter(|&length| length >= least);
         let mut table = Assembler::new();
-        table.octets(LONGEST);
-        let short = (0..20).map(&mut contents).collect::<Vec<_>>();
-        let lists = short.into_iter().chain(LENGTHS.map(&mut contents));
-        self.table("Lengths", "octets", table.finish(), lists.collect());
+        row(&mut table, LONGEST);
+        let lists = (least..20).chain(lengths.clone()).map(&mut contents);
+        self.table("Lengths", kind, table.finish(), lists.collect());
         for before in 1..8 {
             let mut table = Assembler::new();
             let bits = table.number(0, (1 << before) - 1);
-            let octets = table.octets(LONGEST);
+            let octets = row(&mut table, LONGEST);
             table.record(&[(bits, false), (octets, false), (bits, false)]);
-            let lists = LENGTHS.iter().map(|&length| {
+            let lists = lengths.clone().map(|length| {
                 let mut list = vec![length as i64 % (1 << before)];
                 list.extend(contents(length));
                 list.push((1 << before) - 1);
                 list
             });
-            self.table("Lengths", "octets", table.finish(), lists.collect());
+            self.table("Lengths", kind, table.finish(), lists.collect());
+        }
+    }
+
+    /// Values in the open type that an extension addition is: of no bits, of a few, and of as many octets
+    /// as open octets have at an edge.
+    fn additions(&mut self) {
+        for (places, value) in added_types() {
+            for before in places {
+                let most = (1 << before) - 1;
+                let mut table = Assembler::new();
+                let bit = table.number(0, 1);
+                let fields = [
+                    bit,
+                    table.number(0, most),
+                    table.number(0, 127), // the count of additions less one
+                    bit,
+                    table.open_octets(LONGEST),
+                ];
+                table.record(&fields.map(|field| (field, false)));
+                let added = Added {
+                    number: self.asked.len(),
+                    most,
+                    value: value.clone(),
+                };
+                let list = |value| added.list(i64::from(most), value);
+                let lists = value.values.iter().map(list).collect();
+                let types = Types::Added(added);
+                self.ask("Additions", "addition", table.finish(), types, lists);
+            }
         }
     }
 
@@ -374,6 +433,70 @@ pub fn draws(random: &mut Random, table: &[u8], count: usize, budget: usize) -> 
     lists
 }
 
+/// Types with values whose encodings are worked out by hand, each with the counts of bits that it is
+/// asked after.
+fn added_types() -> Vec<(Range<u32>, AddedType)> {
+    let typed = |notation, values| (0..8, AddedType { notation, values });
+    let value = |term: &str, xml: &str, octets: &[u8]| AddedValue {
+        term: term.to_string(),
+        xml: xml.to_string(),
+        octets: octets.to_vec(),
+    };
+    // An octet string: its length, then its octets, all alike.
+    let string = |length: usize| {
+        let head = match length {
+            0..128 => vec![length as u8],
+            _ => (0x8000 | length as u16).to_be_bytes().to_vec(),
+        };
+        AddedValue {
+            term: format!("<<{}>>", vec!["165"; length].join(",")),
+            xml: "A5".repeat(length),
+            octets: [head, vec![0xA5; length]].concat(),
+        }
+    };
+    vec![
+        typed("NULL", vec![value("'NULL'", "", &[0])]),
+        typed("SEQUENCE { }", vec![value("{r}", "", &[0])]),
+        typed("INTEGER (5..5)", vec![value("5", "5", &[0])]),
+        typed(
+            "BOOLEAN",
+            vec![
+                value("false", "<false/>", &[0]),
+                value("true", "<true/>", &[0x80]),
+            ],
+        ),
+        typed(
+            "INTEGER (0..255)",
+            vec![value("0", "0", &[0]), value("200", "200", &[200])],
+        ),
+        typed(
+            "INTEGER (0..511)",
+            vec![
+                value("0", "0", &[0, 0]),
+                value("300", "300", &[0x96, 0x00]),
+                value("511", "511", &[0xFF, 0x80]),
+            ],
+        ),
+        typed(
+            "SEQUENCE { a INTEGER (0..7), b BOOLEAN OPTIONAL }",
+            vec![
+                value("{r,5,asn1_NOVALUE}", "<a>5</a>", &[0x50]),
+                value("{r,5,true}", "<a>5</a><b><true/></b>", &[0xD8]),
+            ],
+        ),
+        typed("OCTET STRING", vec![string(0), string(1), string(7)]),
+        (
+            0..1,
+            AddedType {
+                notation: "OCTET STRING",
+                values: [125, 126, 127, 128, 252, 253, 254, 16_380, 16_381]
+                    .map(string)
+                    .to_vec(),
+            },
+        ),
+    ]
+}
+
 /// An item for runs.
 struct Item {
     /// Adds its row, and those that it needs.
@@ -382,7 +505,7 @@ struct Item {
     plain: &'static [i64],
 }
 
-const ITEMS: [Item; 9] = [
+const ITEMS: [Item; 10] = [
     Item {
         row: |table| table.number(5, 0),
         plain: &[5],
@@ -406,6 +529,10 @@ const ITEMS: [Item; 9] = [
     Item {
         row: |table| table.octets(LONGEST),
         plain: &[0],
+    },
+    Item {
+        row: |table| table.open_octets(LONGEST),
+        plain: &[1, 1],
     },
     Item {
         row: |table| {

@@ -44,7 +44,7 @@ fn ask(folder: &Path) {
         lists,
     } in &asked
     {
-        if let Types::Made(_) = table.types {
+        if !matches!(table.types, Types::Written(_)) {
             made.entry(module)
                 .or_default()
                 .push_str(&table.definitions());
@@ -58,7 +58,7 @@ fn ask(folder: &Path) {
         roots.entry(module).or_default().push(root);
     }
     for (module, definitions) in made {
-        let imports = "IMPORTS VariableNumber FROM Common;\n";
+        let imports = "IMPORTS VariableNumber FROM Common OpenOctets FROM Open;\n";
         put(
             folder,
             &format!("{module}.asn1"),

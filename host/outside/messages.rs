@@ -1,6 +1,8 @@
 //! LM, SAM and SRM: what the tools are asked, and the names that the modules written by hand give to
 //! fields and branches.
 
+use std::iter;
+
 use teyolxan_host::builtin;
 use teyolxan_host::random::{lm_list, Random};
 
@@ -31,7 +33,8 @@ pub fn all() -> [Asked; 3] {
         &[3, 0, 1, 1, 0, 49_152, 2, 32, 135, 1, 0, 1, 2, 7, 9, 49_153],
     ]);
     lms.extend(all_forms(&mut random));
-    lms.extend((0..400).map(|_| lm_list(&mut random).values()));
+    let drawn = iter::repeat_with(|| lm_list(&mut random)).filter(|drawn| drawn.whole);
+    lms.extend(drawn.take(400).map(|drawn| drawn.values()));
     sams.extend(draws(&mut random, &sam, 300, 40));
     srms.extend(draws(&mut random, &srm, 200, 40));
     let asked = |module: &'static Written, octets, lists| Asked {
@@ -82,9 +85,9 @@ fn all_forms(random: &mut Random) -> Vec<Vec<i64>> {
         (Some((1, 128)), 5),
         (Some((1, 16_382)), 1),
         (Some((1, 16_383)), 0),
-        (Some((127, 0)), 0),
-        (Some((128, 0)), 1),
-        (Some((255, 0)), 2),
+        (Some((127, 1)), 0),
+        (Some((128, 1)), 1),
+        (Some((255, 1)), 2),
     ] {
         for (subtype, selector) in [(0, 0), (1, 1), (2, 0)] {
             let mut list = n_header(random, subtype, 2, elements);

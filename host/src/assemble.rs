@@ -1,6 +1,6 @@
-//! A small assembler for tables (document 01, "Row layout"): each function adds one row and gives
-//! its offset, to be used as a reference by later rows. It writes what it is told and checks
-//! nothing, so that tables which break a rule can be made too.
+//! A small assembler for tables (document 01, "Row layout", and ticket 2 of document 02): each
+//! function adds one row and gives its offset, to be used as a reference by later rows. It writes
+//! what it is told and checks nothing, so that tables which break a rule can be made too.
 
 /// A row's offset, as references hold it.
 pub type Offset = u16;
@@ -17,6 +17,7 @@ pub mod kind {
     pub const RECORD: u16 = 5;
     pub const CHOICE: u16 = 6;
     pub const OCTETS: u16 = 7;
+    pub const OPEN_OCTETS: u16 = 8;
 }
 
 /// A table in the making; the last row added is its root.
@@ -96,6 +97,13 @@ impl Assembler {
         at
     }
 
+    /// Octets of which there is one at least.
+    pub fn open_octets(&mut self, most: u16) -> Offset {
+        let at = self.row(6, kind::OPEN_OCTETS);
+        self.put(most);
+        at
+    }
+
     /// Octets as they are, right or wrong.
     pub fn raw(&mut self, octets: &[u8]) -> Offset {
         let at = self.octets.len() as Offset;
@@ -120,18 +128,19 @@ mod tests {
     use super::*;
 
     #[test]
-    fn rows_are_laid_out_as_document_01_says() {
+    fn rows_are_laid_out_as_the_documents_say() {
         let mut table = Assembler::new();
         let number = table.number(-128, 255);
         let variable = table.variable();
         let octets = table.octets(16_383);
+        let open = table.open_octets(1);
         let fixed = table.fixed_run(8, number);
         let counted = table.counted_run(255, octets);
         let record = table.record(&[(fixed, false), (counted, true)]);
         let choice = table.choice(&[Some(record), None, Some(variable)]);
         assert_eq!(
-            [number, variable, octets, fixed, counted, record, choice],
-            [0, 12, 16, 22, 30, 38, 52]
+            [number, variable, octets, open, fixed, counted, record, choice],
+            [0, 12, 16, 22, 28, 36, 44, 58]
         );
         assert_eq!(
             table.finish(),
@@ -139,10 +148,11 @@ mod tests {
                 0x0C, 0, 1, 0, 0x80, 0xFF, 0xFF, 0xFF, 0xFF, 0, 0, 0, // number
                 4, 0, 2, 0, // variable number
                 6, 0, 7, 0, 0xFF, 0x3F, // octets
+                6, 0, 8, 0, 1, 0, // open octets
                 8, 0, 3, 0, 8, 0, 0, 0, // fixed run
                 8, 0, 4, 0, 0xFF, 0, 16, 0, // counted run
-                14, 0, 5, 0, 2, 0, 22, 0, 0, 0, 30, 0, 1, 0, // record
-                12, 0, 6, 0, 3, 0, 38, 0, 0xFF, 0xFF, 12, 0, // choice
+                14, 0, 5, 0, 2, 0, 28, 0, 0, 0, 36, 0, 1, 0, // record
+                12, 0, 6, 0, 3, 0, 44, 0, 0xFF, 0xFF, 12, 0, // choice
             ]
         );
     }

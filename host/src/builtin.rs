@@ -13,7 +13,7 @@ struct Opening {
 fn opening(table: &mut Assembler) -> Opening {
     let octet = table.number(0, 255);
     let two_octets = table.number(0, 65_535);
-    let contents = table.octets(16_383);
+    let contents = table.open_octets(16_383);
     let element = table.record(&[always(octet), always(contents)]);
     let extensions = table.counted_run(255, element);
     Opening {
@@ -158,7 +158,7 @@ pub fn srm() -> Vec<u8> {
     let its_aid = table.variable();
     let its_aids = table.counted_run(16_383, its_aid);
     let request = table.record(&[always(two_octets), always(its_aids)]);
-    let context_data = table.octets(16_383);
+    let context_data = table.open_octets(16_383);
     let context_reference = table.record(&[always(its_aid), always(octet)]);
     let context_set = table.record(&[
         always(context_reference),

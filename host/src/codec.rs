@@ -54,7 +54,7 @@ refusals! {
     NO_BRANCH = 4, "an index is too high, or its branch is reserved";
     BAD_LENGTH = 5, "a length has a bad form";
     /// For an opened message: more than 32 bits are asked for.
-    ABOVE_MOST = 6, "a count or length is above its limit";
+    OUTSIDE_LIMITS = 6, "a count or length is outside its limits";
     BAD_VARIABLE = 7, "a variable number starts with 1111";
     NO_ROOM = 8, "there is no room for the next value, or for the next bits";
     NOT_PADDING = 9, "the padding is not zero, or octets are left";

@@ -10,7 +10,7 @@
 //! | `archive` | the static libraries as a codec under test |
 //! | `assemble` | a small assembler for tables |
 //! | `builtin` | the built-in tables, assembled as docs/MESSAGES.md lists their rows |
-//! | `reference` | the independent codec, written from document 01 and ticket 1 of document 02 alone; also the speed baseline |
+//! | `reference` | the independent codec, written from document 01 and tickets 1 and 2 of document 02 alone; also the speed baseline |
 //! | `mutants` | the reference with one planted fault each |
 //! | `case` | one call with its input, and the outcome of running it on a codec |
 //! | `vectors` | the text format of the case files in `vectors/`, and their runner |

@@ -35,6 +35,10 @@ faults! {
     ReferenceInsideRow,
     /// Check: a row of depth 33 passes.
     DepthOneMore,
+    /// Check: a row of kind 9 passes where it is laid out as open octets.
+    KindNinePasses,
+    /// Check: open octets pass with a limit of 0.
+    OpenMostZero,
     /// Check: a table under 4 octets is told as a row that is cut (20 for 1).
     SizeAsRow,
     /// Check: the kind is tested before the row's end (21 for 20).
@@ -85,6 +89,12 @@ faults! {
     ShortInLongForm,
     /// Reading: a missing second octet of a length is told at that octet.
     SecondOctetPlace,
+    /// Reading: open octets may be none.
+    OpenEmptyRead,
+    /// Reading: a length 80 00 of open octets is told as 0 (6 for 5).
+    LeastBeforeForm,
+    /// Reading: the room is tested before a length's limits (8 for 6).
+    RoomBeforeLimits,
     /// Reading: each presence bit stands before its field.
     PresenceBesideField,
     /// Reading: the padding may hold anything.
@@ -99,6 +109,8 @@ faults! {
     NarrowDistance,
     /// Writing: a full output is told before a wrong value.
     RoomBeforeValue,
+    /// Writing: open octets may be none.
+    OpenEmptyWritten,
     /// Writing: values left over are ignored.
     LeftOverTaken,
     /// Writing: a root of 0 bits takes no octet.
@@ -107,6 +119,8 @@ faults! {
     OutputNotLimited,
     /// An LM by name: the subtype is tested before the version.
     SubtypeFirst,
+    /// An LM by name: an element's contents may be empty.
+    EmptyContents,
     /// User data: what follows it is not tested.
     RestNotTested,
     /// Elements: a home that does not exist is taken for another home.

@@ -15,9 +15,10 @@
 //! | `take BASIS MESSAGE K,K,..` | `ok` or `no:13:0:0`, then `ok:NUMBER:PLACE` or `no:NUMBER:PLACE:0` for each |
 //! | `bench BASIS STREAM` | the text printed, with a bar for each line end |
 //!
-//! BASIS is `-` where document 01 alone decides, and `1` where ticket 1 of document 02 may: a line
-//! whose refusal is 20 or above has `1`. TABLE is octets, or `LM` for the built-in table by name. A
-//! refusal is `no NUMBER PLACE 0`; the last cell is kept for a later count of missing bits.
+//! BASIS is `-` where document 01 alone decides, and else the tickets of document 02 that may, `1` or
+//! `1,2`: a line whose refusal is 20 or above has one of these. TABLE is octets, or `LM` for the
+//! built-in table by name. A refusal is `no NUMBER PLACE 0`; the last cell is kept for a later count of
+//! missing bits.
 //!
 //! A value slice is lent with 0 to 7 octets after its values, by the line's number, which a codec
 //! has to ignore or zero.
@@ -32,7 +33,8 @@ use crate::codec::{value_octets, Answer, Bits, Call, Codec, Element, Part, Refus
 pub const BASE: &str = include_str!("../vectors/base.txt");
 pub const EDGES: &str = include_str!("../vectors/edges.txt");
 pub const STAGE01: &str = include_str!("../vectors/stage01.txt");
-pub const FILES: [&str; 3] = [BASE, EDGES, STAGE01];
+pub const STAGE02: &str = include_str!("../vectors/stage02.txt");
+pub const FILES: [&str; 4] = [BASE, EDGES, STAGE01, STAGE02];
 
 /// A call with the outcome that it has to have.
 #[derive(Clone, Debug)]
@@ -165,8 +167,12 @@ fn parse_line(words: &str, tail: usize) -> Result<(Case, Outcome), String> {
         "element" => false,
         _ => match cells.next()? {
             "-" => false,
-            "1" => true,
-            cell => return Err(format!("{cell} is neither document 01 nor ticket 1")),
+            "1" | "1,2" => true,
+            cell => {
+                return Err(format!(
+                    "{cell} is neither document 01 nor tickets of document 02"
+                ))
+            }
         },
     };
     let parsed = match name {
@@ -412,13 +418,13 @@ pub fn case_text(case: &Case) -> String {
         Table::Lm => "LM".to_string(),
     };
     match case {
-        Case::Check { table } => format!("check 1 {}", octets_cell(table)),
+        Case::Check { table } => format!("check 1,2 {}", octets_cell(table)),
         Case::Read {
             table,
             message,
             value_octets,
         } => format!(
-            "read 1 {} {} {} (value slice of {value_octets} octets)",
+            "read 1,2 {} {} {} (value slice of {value_octets} octets)",
             table_cell(table),
             octets_cell(message),
             value_octets / 8,
@@ -428,17 +434,17 @@ pub fn case_text(case: &Case) -> String {
             values,
             output,
         } => format!(
-            "write 1 {} {} {output}",
+            "write 1,2 {} {} {output}",
             table_cell(table),
             values_cell(values)
         ),
-        Case::UserData { message } => format!("userdata 1 {}", octets_cell(message)),
+        Case::UserData { message } => format!("userdata 1,2 {}", octets_cell(message)),
         Case::Element { id, home } => format!("element {id} {home}"),
         Case::Take { message, widths } => {
             let widths: Vec<String> = widths.iter().map(u64::to_string).collect();
-            format!("take 1 {} {}", octets_cell(message), widths.join(","))
+            format!("take 1,2 {} {}", octets_cell(message), widths.join(","))
         }
-        Case::Bench { stream } => format!("bench 1 {}", octets_cell(stream)),
+        Case::Bench { stream } => format!("bench 1,2 {}", octets_cell(stream)),
     }
 }
 
@@ -490,7 +496,8 @@ mod tests {
         for line in [
             "check - 04000200",
             "check 2 04000200 ok",
-            "check 1,2 04000200 ok",
+            "check 2,1 04000200 ok",
+            "check 1,2,9 04000200 ok",
             "check - 04000200 ok 1",
             "check - 00000200 no 22 0 0",
             "check - 04000200 no 1 0",

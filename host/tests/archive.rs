@@ -11,7 +11,7 @@ use teyolxan_host::compare::{compare, compare_one, Stats};
 use teyolxan_host::guarded::Guarded;
 use teyolxan_host::reference::REFERENCE;
 use teyolxan_host::settings;
-use teyolxan_host::vectors::{parse, run, Vector, BASE, EDGES, FILES, STAGE01};
+use teyolxan_host::vectors::{parse, run, Vector, BASE, EDGES, FILES, STAGE02};
 
 /// Cases for the libraries against the reference; more where the build is optimised.
 const CASES: u64 = if cfg!(debug_assertions) {
@@ -42,7 +42,7 @@ fn passes(codec: &dyn Codec, vectors: &[Vector]) -> [usize; CALLS.len()] {
 fn base() {
     assert_eq!(
         passes(&ARCHIVE, &vectors(BASE)),
-        [461, 1_055, 986, 572, 316, 456, 505, 80]
+        [458, 1_055, 986, 477, 257, 456, 420, 80]
     );
 }
 
@@ -50,15 +50,15 @@ fn base() {
 fn edges() {
     assert_eq!(
         passes(&ARCHIVE, &vectors(EDGES)),
-        [200, 85, 57, 15, 9, 3, 6, 2]
+        [224, 140, 92, 34, 18, 3, 9, 2]
     );
 }
 
 #[test]
-fn stage01() {
+fn stage02() {
     assert_eq!(
-        passes(&ARCHIVE, &vectors(STAGE01)),
-        [835, 264, 106, 77, 36, 0, 16, 16]
+        passes(&ARCHIVE, &vectors(STAGE02)),
+        [305, 520, 286, 188, 112, 0, 102, 6]
     );
 }
 
@@ -94,7 +94,7 @@ fn the_libraries_equal_the_reference() {
 fn rows_of_any_numbers_are_told_alike() {
     const NUMBERS: [&[u16]; 5] = [
         &[0, 3, 4, 5, 6, 8, 10, 12, 14, 0xFFFF], // a length
-        &[0, 1, 2, 3, 4, 5, 6, 7, 8, 261],       // a kind
+        &[0, 1, 2, 3, 4, 5, 6, 7, 8, 9, 261],    // a kind
         &[0, 1, 2, 3, 33, 1_025, 16_384, 16_385, 0x8002, 0xFFFF],
         &[0, 1, 2, 4, 0xFFFF],
         &[0, 1, 2, 4, 0xFFFF],
@@ -192,7 +192,7 @@ fn bits_are_taken_beyond_the_end_where_there_are_none() {
         assert_eq!(ARCHIVE.take_at(&message, place, 0), Ok(none));
         let short = Refusal::new(Refusal::MESSAGE_ENDS, place);
         assert_eq!(ARCHIVE.take_at(&message, place, 1), Err(short));
-        let wide = Refusal::new(Refusal::ABOVE_MOST, place);
+        let wide = Refusal::new(Refusal::OUTSIDE_LIMITS, place);
         assert_eq!(ARCHIVE.take_at(&message, place, 33), Err(wide));
     }
 }

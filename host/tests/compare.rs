@@ -77,7 +77,7 @@ fn only_shared_calls_are_compared_and_a_report_can_be_repeated() {
         .and_then(|(number, _)| number.parse().ok())
         .expect("the report names the case");
     assert!(report.starts_with("seed 3, case "), "{report}");
-    assert!(report.contains("check 1 "), "{report}");
+    assert!(report.contains("check 1,2 "), "{report}");
     let again = compare_case(&REFERENCE, &PassesAll, 3, number).expect_err("the same");
     assert_eq!(again, report);
 }

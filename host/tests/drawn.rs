@@ -1,10 +1,12 @@
 //! What is drawn, against the reference: the generator knows the outcome of what it draws, by its
 //! own count of items and its own packing of bits.
 
+use std::collections::BTreeMap;
+
 use teyolxan_host::codec::{Answer, Refusal};
 use teyolxan_host::random::{
     allowed_list, large_list, large_lm, lm_list, passing_table, some_budget, spoilt_message,
-    wrong_bits, Drawn, Random,
+    wrong_bits, Drawn, Form, Item, Random, Spoilt,
 };
 use teyolxan_host::reference::{
     check, lm_table, read, read_lm, root_of, user_data, user_data_part, write, write_lm,
@@ -73,10 +75,78 @@ fn goes_both_ways(random: &mut Random, table: &[u8], drawn: &Drawn) {
     );
 }
 
+/// What the length of open octets was drawn as, and how often.
+#[derive(Debug, Default)]
+struct Open(BTreeMap<&'static str, u64>);
+
+impl Open {
+    const DRAWN_AS: [&str; 8] = [
+        "the least",
+        "the most",
+        "long",
+        "0",
+        "above the most",
+        "80 00",
+        "another bad form",
+        "0 to be written",
+    ];
+
+    /// Whether the item is such a length.
+    fn is_length(item: &Item) -> bool {
+        matches!(item.form, Form::Length { least: 1, .. })
+    }
+
+    fn count(&mut self, drawn_as: &'static str) {
+        *self.0.entry(drawn_as).or_default() += 1;
+    }
+
+    fn count_list(&mut self, table: &[u8], drawn: &Drawn) {
+        for item in drawn.items.iter().filter(|item| Open::is_length(item)) {
+            let (least, most) = item.bounds(table);
+            if item.value == least {
+                self.count("the least");
+            }
+            if item.value == most {
+                self.count("the most");
+            }
+            if item.width == 16 {
+                self.count("long");
+            }
+        }
+    }
+
+    fn count_spoilt(&mut self, drawn: &Drawn, spoilt: &Spoilt) {
+        if Open::is_length(&drawn.items[spoilt.item]) {
+            self.count(match (spoilt.number, spoilt.bits) {
+                (Refusal::OUTSIDE_LIMITS, 0) => "0",
+                (Refusal::OUTSIDE_LIMITS, _) => "above the most",
+                (_, 0x8000) => "80 00",
+                _ => "another bad form",
+            });
+        }
+    }
+
+    fn count_written(&mut self, item: &Item, value: i64) {
+        if Open::is_length(item) && value == 0 {
+            self.count("0 to be written");
+        }
+    }
+
+    /// Each came up often.
+    fn assert_drawn(&self) {
+        println!("{self:?}");
+        for drawn_as in Open::DRAWN_AS {
+            let count = self.0.get(drawn_as).copied().unwrap_or(0);
+            assert!(count >= 50, "{drawn_as}: {count} times");
+        }
+    }
+}
+
 /// Reads the message with one item's bits wrong, and writes the list with one value wrong.
-fn is_refused_where_it_is_wrong(random: &mut Random, table: &[u8], drawn: &Drawn) {
+fn is_refused_where_it_is_wrong(random: &mut Random, table: &[u8], drawn: &Drawn, open: &mut Open) {
     let (mut values, message) = (drawn.values(), drawn.message());
     if let Some(spoilt) = wrong_bits(random, table, drawn) {
+        open.count_spoilt(drawn, &spoilt);
         let place = place_of(drawn, spoilt.item);
         let room = spoilt.item + random.index(3);
         assert_eq!(
@@ -88,6 +158,7 @@ fn is_refused_where_it_is_wrong(random: &mut Random, table: &[u8], drawn: &Drawn
     let at = random.index(values.len());
     let bounds = drawn.items[at].bounds(table);
     values[at] = random.pick(&[bounds.0 - 1, bounds.1 + 1, i64::MIN, i64::MAX]);
+    open.count_written(&drawn.items[at], values[at]);
     assert_eq!(
         write(table, &values, message.len()),
         (refused(Refusal::WRONG_VALUE, at), vec![0; message.len()])
@@ -126,6 +197,7 @@ fn is_short_where_it_is_cut(random: &mut Random, table: &[u8], drawn: &Drawn) {
 #[test]
 fn lists_go_both_ways() {
     let mut whole = 0;
+    let mut open = Open::default();
     for number in 0..DRAWS {
         let random = &mut Random::for_case(4, number);
         let table = passing_table(random);
@@ -137,11 +209,13 @@ fn lists_go_both_ways() {
             continue;
         }
         whole += 1;
+        open.count_list(&table, &drawn);
         goes_both_ways(random, &table, &drawn);
-        is_refused_where_it_is_wrong(random, &table, &drawn);
+        is_refused_where_it_is_wrong(random, &table, &drawn, &mut open);
         is_short_where_it_is_cut(random, &table, &drawn);
     }
     assert!(whole * 10 > DRAWS * 9, "only {whole} lists are whole");
+    open.assert_drawn();
 }
 
 #[test]

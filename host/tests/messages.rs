@@ -196,6 +196,11 @@ fn examples(name: Name) -> Vec<(Vec<i64>, Option<Vec<u8>>)> {
                     ],
                     Some(vec![0x32, 0x00, 0x01, 0x11, 0xB2, 0x94, 0x0C, 0x02]),
                 ),
+                // A service with an empty system service.
+                (
+                    vec![3, 0, 1, 0, 0, 0, 0, 1, 32, 1, 1, 0, 0, 0],
+                    Some(vec![0x34, 0x00, 0x01, 0x20, 0x0C, 0x00]),
+                ),
                 // A service with all its options: a system service, a port, an extension.
                 (
                     vec![
@@ -238,10 +243,10 @@ fn examples(name: Name) -> Vec<(Vec<i64>, Option<Vec<u8>>)> {
                     0xC0, 0x01,
                 ]),
             ),
-            // All four parts; context data of no octets; two allocated channels.
+            // All four parts; context data of one octet; two allocated channels.
             (
                 vec![
-                    15, 1, 1, 1, 1, 1, 4, 1, 255, 0, 0, 1, 16_512, 255, 0, 65_535, 2, 32, 1,
+                    15, 1, 1, 1, 1, 1, 4, 1, 255, 0, 0, 1, 16_512, 255, 1, 0, 65_535, 2, 32, 1,
                     2_113_664, 2,
                 ],
                 None,
@@ -278,9 +283,9 @@ fn what_the_tables_refuse() {
         (&lm, &[0x33], Refusal::WRONG_SUBTYPE, 0),
         (&sam, &[], Refusal::MESSAGE_ENDS, 0),
         (&sam, &[0x30], Refusal::MESSAGE_ENDS, 8),
-        (&sam, &[0x34, 0x00, 0x20], Refusal::ABOVE_MOST, 16), // 32 services
-        (&sam, &[0x32, 0x00, 0x20], Refusal::ABOVE_MOST, 16), // 32 channels
-        (&sam, &[0x38, 0x00, 0x81, 0x00], Refusal::ABOVE_MOST, 16), // 256 extensions
+        (&sam, &[0x34, 0x00, 0x20], Refusal::OUTSIDE_LIMITS, 16), // 32 services
+        (&sam, &[0x32, 0x00, 0x20], Refusal::OUTSIDE_LIMITS, 16), // 32 channels
+        (&sam, &[0x38, 0x00, 0x81, 0x00], Refusal::OUTSIDE_LIMITS, 16), // 256 extensions
         (&sam, &[0x38, 0x00, 0x80, 0x01], Refusal::BAD_LENGTH, 16),
         (&sam, &[0x34, 0x00, 0x01, 0xF0], Refusal::BAD_VARIABLE, 24),
         (&sam, &[0x30, 0x12, 0x00], Refusal::NOT_PADDING, 16),
@@ -300,6 +305,100 @@ fn what_the_tables_refuse() {
             place: 0,
         };
         assert_eq!(answer, too_long);
+    }
+}
+
+/// Element contents and context data have an octet at least: wherever an empty one stands, the outcome
+/// is at its length.
+#[test]
+fn contents_are_never_empty() {
+    let [lm, sam, srm] = kinds();
+    let refused = |number, place: usize| Answer::from(Refusal::new(number, place));
+    // A routing advertisement: lifetime, prefix and its length, gateway and DNS, 51 octets.
+    let routing = [&[0x31, 0x00][..], &[0; 51], &[0x01, 0x11, 0x00]].concat();
+    let routing_list = [&[3, 0, 0, 0, 1, 0, 0, 0][..], &[0; 49], &[1, 17, 0]].concat();
+    // The message, the octet that is the length, the list up to the length.
+    for (kind, message, octet, list) in [
+        (
+            &lm,
+            &[0x0B, 0x01, 0x04, 0x00, 0x00, 0x00, 0x00][..],
+            3,
+            &[0, 1, 3, 1, 4, 0][..],
+        ),
+        (
+            &lm,
+            &[0x03, 0x03, 0, 80, 0, 80, 0x01, 0x53, 0x00, 0x00],
+            8,
+            &[0, 0, 3, 1, 1, 80, 80, 1, 83, 0],
+        ),
+        (
+            &sam,
+            &[0x38, 0x00, 0x01, 0x11, 0x00],
+            4,
+            &[3, 1, 0, 0, 0, 0, 0, 1, 17, 0],
+        ),
+        (
+            &sam,
+            &[0x34, 0x00, 0x01, 0x20, 0x09, 0x01, 0x55, 0x00],
+            7,
+            &[3, 0, 1, 0, 0, 0, 0, 1, 32, 1, 0, 0, 1, 1, 85, 0],
+        ),
+        (
+            &sam,
+            &[
+                0x32, 0x00, 0x01, 0x11, 0xB2, 0x94, 0x0C, 0x01, 0x01, 0x11, 0x00,
+            ],
+            10,
+            &[
+                3, 0, 0, 1, 0, 0, 0, 1, 17, 178, 20, 0, 12, 0, 0, 0, 0, 0, 0, 0, 1, 1, 17, 0,
+            ],
+        ),
+        (&sam, &routing, 55, &routing_list),
+        (
+            &srm,
+            &[0x38, 0x01, 0x04, 0x00],
+            3,
+            &[3, 1, 0, 0, 0, 1, 4, 0],
+        ),
+        // Context data.
+        (
+            &srm,
+            &[0x32, 0x01, 0x00, 0x01, 0x00, 0xC0, 0x01],
+            4,
+            &[3, 0, 0, 1, 0, 1, 0, 1, 0],
+        ),
+    ] {
+        let place = 8 * octet;
+        let index = list.len() - 1;
+        for room in [index, index + 1, 100] {
+            let (answer, _) = kind.read(message, room);
+            assert_eq!(answer, refused(Refusal::OUTSIDE_LIMITS, place));
+        }
+        let before = &message[..octet];
+        for (length, number) in [
+            (&[][..], Refusal::MESSAGE_ENDS),
+            (&[0x00], Refusal::OUTSIDE_LIMITS),
+            (&[0x80], Refusal::MESSAGE_ENDS),
+            (&[0x80, 0x00], Refusal::BAD_LENGTH),
+            (&[0x80, 0x7F], Refusal::BAD_LENGTH),
+            (&[0xC0], Refusal::BAD_LENGTH),
+        ] {
+            let (answer, _) = kind.read(&[before, length].concat(), 100);
+            assert_eq!(answer, refused(number, place), "{length:02X?}");
+        }
+        let (answer, _) = kind.read(message, index - 1);
+        assert!(
+            matches!(answer, Answer::Refused { number, .. } if number == Refusal::NO_ROOM),
+            "{answer:?}"
+        );
+
+        for size in [octet, octet + 1, 100] {
+            for length in [0, -1, 16_384, i64::MIN, i64::MAX] {
+                let list = [&list[..index], &[length]].concat();
+                let (answer, _) = kind.write(&list, size);
+                assert_eq!(answer, refused(Refusal::WRONG_VALUE, index), "{length}");
+            }
+        }
     }
 }
 

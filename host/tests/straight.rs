@@ -96,7 +96,7 @@ fn stored_vectors_pass() {
     let report = run(&Straight, &stored());
     let differences = report.differences.join("\n");
     assert!(report.differences.is_empty(), "{differences}");
-    assert_eq!(report.total(), 1_708);
+    assert_eq!(report.total(), 1_776);
 }
 
 /// Whatever the message was stored for.
@@ -157,11 +157,15 @@ fn planted_faults_are_found() {
         Fault::IndexWidth,
         Fault::ShortInLongForm,
         Fault::SecondOctetPlace,
+        Fault::OpenEmptyRead,
+        Fault::LeastBeforeForm,
+        Fault::RoomBeforeLimits,
         Fault::PresenceBesideField,
         Fault::ValuesKept,
         Fault::TailKept,
         Fault::MessageOneLonger,
         Fault::SubtypeFirst,
+        Fault::EmptyContents,
     ];
     assert_eq!(found, shown);
 }

@@ -194,6 +194,39 @@ fn the_slip_of_the_document_is_listed() {
     assert!(text.ends_with(block), "{text}");
 }
 
+/// Open octets have their own name and bounds.
+#[test]
+fn open_octets_are_listed() {
+    let list = printed(Path::new("SRM"), &[]);
+    for row in [
+        "\n   24  open octets, most 16383\n",
+        "\n   90  open octets, most 16383\n",
+    ] {
+        assert!(list.contains(row), "{row}: {list}");
+    }
+    for (octets, number, listed) in [
+        (
+            "06 00 08 00 00 00",
+            Refusal::WRONG_ROW_NUMBER,
+            "open octets, most 0: 1 to 16383 are allowed",
+        ),
+        (
+            "04 00 08 00",
+            Refusal::WRONG_ROW_LENGTH,
+            "open octets, length 4: it has 6",
+        ),
+        ("06 00 09 00 05 00", Refusal::UNKNOWN_KIND, "kind 9"),
+    ] {
+        let told = Refusal { number, place: 0 };
+        let text = printed(&written("open.txt", octets), &[]);
+        assert_eq!(text, format!("    0  {octets}\n       {listed}\n{told}\n"));
+    }
+    let file = written("open-octets.txt", "06 00 08 00 05 00");
+    let (number, place) = (Refusal::OUTSIDE_LIMITS, 0);
+    let told = format!("{}\n", Refusal { number, place });
+    assert_eq!(printed(&file, &["read", "00"]), told);
+}
+
 /// Whatever the octets are, the rows are listed up to the one that is refused, each with its offset,
 /// and the program ends as it should.
 #[test]

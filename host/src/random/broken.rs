@@ -47,6 +47,7 @@ fn add_broken(random: &mut Random, rows: &mut Rows, deep: Option<Offset>) {
             kind::RECORD,
             kind::CHOICE,
             kind::OCTETS,
+            kind::OPEN_OCTETS,
         ]),
         Refusal::ONLY_RESERVED => kind::CHOICE,
         Refusal::WRONG_REFERENCE => random.pick(&[
@@ -55,7 +56,7 @@ fn add_broken(random: &mut Random, rows: &mut Rows, deep: Option<Offset>) {
             kind::RECORD,
             kind::CHOICE,
         ]),
-        _ => random.within(kind::NUMBER.into(), kind::OCTETS.into()) as u16,
+        _ => random.within(kind::NUMBER.into(), kind::OPEN_OCTETS.into()) as u16,
     };
     let second = random.one_in(2).then(|| random.pick(&PARTS));
     let mut row = Row::right(random, rows, kind);
@@ -165,7 +166,7 @@ impl Row {
             Refusal::WRONG_ROW_LENGTH => self.spoil_length(random),
             Refusal::UNKNOWN_KIND => {
                 let more = self.kind() + 256;
-                self.numbers[1] = random.pick(&[0, 8, 9, 100, 300, more, 0xFFFF]);
+                self.numbers[1] = random.pick(&[0, 9, 10, 100, 300, more, 0xFFFF]);
             }
             _ => match random.below(4) {
                 0 => self.size = random.index(4), // the last row, or the others are moved
@@ -180,7 +181,9 @@ impl Row {
         let flag = random.one_in(2);
         match self.kind() {
             kind::FIXED_RUN => self.numbers[2] = random.pick(&[0, 1_025, 0xFFFF]),
-            kind::COUNTED_RUN => self.numbers[2] = random.pick(&[0, 16_384, 0xFFFF]),
+            kind::COUNTED_RUN | kind::OPEN_OCTETS => {
+                self.numbers[2] = random.pick(&[0, 16_384, 0xFFFF]);
+            }
             kind::OCTETS => self.numbers[2] = random.pick(&[16_384, 0xFFFF]),
             kind::RECORD if flag => {
                 if let Some(at) = self.some_reference(random) {

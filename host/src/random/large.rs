@@ -10,7 +10,11 @@ pub fn large_list(random: &mut Random) -> (Vec<u8>, Drawn) {
     let mut table = Assembler::new();
     let shift = random.one_in(2);
     let bit = table.number(0, 1);
-    let octets = table.octets(LENGTH_MOST as u16);
+    let (octets, least) = if random.one_in(2) {
+        (table.octets(LENGTH_MOST as u16), 0)
+    } else {
+        (table.open_octets(LENGTH_MOST as u16), 1)
+    };
     let four = table.fixed_run(4, octets);
     if shift {
         table.record(&[(bit, false), (four, false)]);
@@ -27,7 +31,7 @@ pub fn large_list(random: &mut Random) -> (Vec<u8>, Drawn) {
     for _ in 0..4 {
         let length = left.min(LENGTH_MOST as usize);
         left -= length;
-        drawn.items.push(Item::length(LENGTH_MOST, length));
+        drawn.items.push(Item::length(least, LENGTH_MOST, length));
         let octet = random.word() as u8;
         let octets = (0..length).map(|at| Item::octet(octet.wrapping_add((at / 64) as u8)));
         drawn.items.extend(octets);
@@ -41,13 +45,13 @@ pub fn large_lm(random: &mut Random) -> Drawn {
         Item::index(lm_table().n_header, 0, 16),
         Item::presence(true),
         Item::number(0, 7, 3),
-        Item::length(255, 4),
+        Item::length(0, 255, 4),
     ];
     let octets = |length: usize| (0..length).map(|at| Item::octet((at / 64) as u8));
     for id in 0..4 {
         let length = if id < 3 { LENGTH_MOST as usize } else { 16_000 };
         items.push(Item::number(0, 255, id));
-        items.push(Item::length(LENGTH_MOST, length));
+        items.push(Item::length(1, LENGTH_MOST, length));
         items.extend(octets(length));
     }
     items.push(Item::index(lm_table().t_header, 0, 128));
@@ -56,7 +60,7 @@ pub fn large_lm(random: &mut Random) -> Drawn {
     let mut drawn = Drawn { items, whole: true };
     let size = MESSAGE_MOST - 2 + random.index(5);
     let length = size - drawn.bits() / 8 - 2;
-    drawn.items.push(Item::length(LENGTH_MOST, length));
+    drawn.items.push(Item::length(0, LENGTH_MOST, length));
     drawn.items.extend(octets(length));
     drawn
 }

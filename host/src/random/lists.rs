@@ -20,7 +20,7 @@ pub struct Item {
 pub enum Form {
     Number { low: i64, span: u32 },
     Variable,
-    Length { most: u32 },
+    Length { least: u32, most: u32 },
     Presence,
     Index { row: usize },
     Octet,
@@ -54,13 +54,13 @@ impl Item {
     }
 
     /// A length; it is at most 16,383.
-    pub fn length(most: u32, length: usize) -> Item {
+    pub fn length(least: u32, most: u32, length: usize) -> Item {
         let short = length < 128;
         Item {
             value: length as i64,
             bits: length as u64 | if short { 0 } else { 0x8000 },
             width: if short { 8 } else { 16 },
-            form: Form::Length { most },
+            form: Form::Length { least, most },
         }
     }
 
@@ -96,7 +96,7 @@ impl Item {
         match self.form {
             Form::Number { low, span } => (low, low + i64::from(span)),
             Form::Variable => (0, VARIABLE_MOST),
-            Form::Length { most } => (0, i64::from(most)),
+            Form::Length { least, most } => (i64::from(least), i64::from(most)),
             Form::Presence => (0, 1),
             Form::Index { row } => match Row::at(table, row) {
                 Row::Choice { branches } => (0, branches.len() as i64 - 1),
@@ -184,7 +184,7 @@ impl Lister<'_> {
     /// Adds the values of a row; false if the list has become too long and was cut.
     fn row(&mut self, offset: usize) -> bool {
         // What a row asks for at least may go beyond the budget, but not far.
-        if self.items.len() > 4 * self.budget + 300 {
+        if self.items.len() > 4 * self.budget + 400 {
             return false;
         }
         match Row::at(self.table, offset) {
@@ -204,7 +204,7 @@ impl Lister<'_> {
             }
             Row::FixedRun { count, item } => (0..count).all(|_| self.row(item)),
             Row::CountedRun { most, item } => {
-                let count = self.length(most);
+                let count = self.length(0, most);
                 (0..count).all(|_| self.row(item))
             }
             Row::Record { fields } => {
@@ -239,8 +239,8 @@ impl Lister<'_> {
                 }
                 false
             }
-            Row::Octets { most } => {
-                let length = self.length(most);
+            Row::Octets { least, most } => {
+                let length = self.length(least, most);
                 for _ in 0..length {
                     let octet = Item::octet(self.random.word() as u8);
                     self.items.push(octet);
@@ -255,17 +255,17 @@ impl Lister<'_> {
     }
 
     /// Adds a length, small where the list is long already.
-    fn length(&mut self, most: u32) -> usize {
-        let most = most as usize;
+    fn length(&mut self, least: u32, most: u32) -> usize {
+        let limit = most as usize;
         let length = match self.random.below(32) {
             _ if self.tight() => 0,
-            0 => most.min(3 * self.budget),
+            0 => limit.min(3 * self.budget),
             1 => 125 + self.random.index(8),
             2..=3 => self.random.index(self.budget),
             _ => self.random.index(4),
         };
-        let length = length.min(most);
-        self.items.push(Item::length(most as u32, length));
+        let length = length.clamp(least as usize, limit);
+        self.items.push(Item::length(least, most, length));
         length
     }
 }

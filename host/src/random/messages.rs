@@ -44,16 +44,29 @@ pub fn wrong_bits(random: &mut Random, table: &[u8], drawn: &Drawn) -> Option<Sp
             }
             (index as u64, item.width, Refusal::NO_BRANCH)
         }
-        Form::Length { most } => match random.below(4) {
+        Form::Length { least, most } => match random.below(4) {
             0 => (0xC0 | random.below(64), 8, Refusal::BAD_LENGTH),
-            1 => (0x8000 | random.below(128), 16, Refusal::BAD_LENGTH),
-            _ if most < LENGTH_MOST => {
-                let above = u64::from(most) + 1;
-                let any = above + random.below(u64::from(LENGTH_MOST) - above + 1);
-                let length = Item::length(most, random.pick(&[above, any]) as usize);
-                (length.bits, length.width, Refusal::ABOVE_MOST)
+            1 => {
+                let any = random.below(128);
+                (
+                    0x8000 | random.pick(&[0, 127, any]),
+                    16,
+                    Refusal::BAD_LENGTH,
+                )
             }
-            _ => return None,
+            _ => {
+                let mut outside: Vec<u32> = (0..least).collect();
+                if most < LENGTH_MOST {
+                    let above = most + 1;
+                    let any = above + random.below(u64::from(LENGTH_MOST - most)) as u32;
+                    outside.extend([above, any]);
+                }
+                if outside.is_empty() {
+                    return None;
+                }
+                let length = Item::length(least, most, random.pick(&outside) as usize);
+                (length.bits, length.width, Refusal::OUTSIDE_LIMITS)
+            }
         },
         Form::Variable => (0xF0 | random.below(16), 8, Refusal::BAD_VARIABLE),
         Form::Presence | Form::Octet => return None,

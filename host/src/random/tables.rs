@@ -106,7 +106,7 @@ impl Rows {
         let kind = match random.below(16) {
             0..=2 => kind::NUMBER,
             3 => kind::VARIABLE,
-            4..=5 => kind::OCTETS,
+            4..=5 => random.pick(&[kind::OCTETS, kind::OPEN_OCTETS]),
             6..=7 => kind::FIXED_RUN,
             8..=9 => kind::COUNTED_RUN,
             10..=13 => kind::RECORD,
@@ -122,6 +122,11 @@ impl Rows {
                 let most = some_length(random, 0);
                 let offset = self.table.octets(most);
                 self.know(offset, 1, 1);
+            }
+            kind::OPEN_OCTETS => {
+                let most = some_length(random, 1);
+                let offset = self.table.open_octets(most);
+                self.know(offset, 1, 2);
             }
             kind::FIXED_RUN if !simple => {
                 let item = self.earlier(random, depth_most);
@@ -315,7 +320,7 @@ fn random_octets_like_rows(random: &mut Random, size: usize) -> Vec<u8> {
     while octets.len() < size {
         let number = match random.below(4) {
             0 => random.pick(&[4u16, 6, 8, 10, 12, 14]),
-            1 => random.below(8) as u16,
+            1 => random.below(10) as u16,
             2 => random.below(64) as u16,
             _ => random.pick(&[0, 1, 0xFFFF, 0x0100, 0x3FFF]),
         };

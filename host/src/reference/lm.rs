@@ -1,4 +1,4 @@
-//! An LM by name, and its user data (document 01, "LM, SAM and SRM").
+//! An LM by name, and its user data (document 01, "LM, SAM and SRM"; document 02, ticket 2).
 
 use std::sync::OnceLock;
 
@@ -29,18 +29,19 @@ const LM_SUBTYPE_MOST: u64 = 2;
 /// The built-in table of an LM.
 pub fn lm_table() -> &'static LmTable {
     static LM: OnceLock<LmTable> = OnceLock::new();
-    LM.get_or_init(assemble_lm)
+    LM.get_or_init(|| assemble_lm(Assembler::open_octets))
 }
 
-fn assemble_lm() -> LmTable {
+/// The table, with element contents of this row.
+fn assemble_lm(contents: fn(&mut Assembler, u16) -> Offset) -> LmTable {
     let always = |row: Offset| (row, false);
     let optional = |row: Offset| (row, true);
     let mut table = Assembler::new();
 
     let octet = table.number(0, 255);
     let two_octets = table.number(0, 65_535);
-    let content = table.octets(16_383);
-    let element = table.record(&[always(octet), always(content)]);
+    let contents = contents(&mut table, 16_383);
+    let element = table.record(&[always(octet), always(contents)]);
     let extensions = table.counted_run(255, element);
 
     let version = table.number(0, 7);
@@ -92,6 +93,16 @@ fn assemble_lm() -> LmTable {
 }
 
 impl<const F: u8> Engine<F> {
+    /// The table that an LM by name is read and written under.
+    #[inline]
+    pub(super) fn lm() -> &'static LmTable {
+        static WITH_OCTETS: OnceLock<LmTable> = OnceLock::new();
+        if planted::<F>(Fault::EmptyContents) {
+            return WITH_OCTETS.get_or_init(|| assemble_lm(Assembler::octets));
+        }
+        lm_table()
+    }
+
     /// The tests of an LM before its items. Its first octet holds the subtype in the upper four
     /// bits and the version in the lower three.
     pub(super) fn lm_tests(message: &[u8]) -> Result<(), Refusal> {
@@ -127,7 +138,7 @@ impl<const F: u8> Engine<F> {
     /// Reads the whole LM, its parts one after another; user data always starts on an octet.
     pub(super) fn find_user_data(message: &[u8]) -> Result<(usize, usize), Refusal> {
         Self::lm_tests(message)?;
-        let lm = lm_table();
+        let lm = Self::lm();
         let mut reader = Reader::<Nowhere, F> {
             table: &lm.octets,
             message,
@@ -137,7 +148,7 @@ impl<const F: u8> Engine<F> {
         };
         reader.row(lm.n_header)?;
         reader.row(lm.t_header)?;
-        let length = reader.length(u32::from(lm.user_data_most))?;
+        let length = reader.length(0, u32::from(lm.user_data_most))?;
         let start = reader.place / 8;
         reader.octets(length)?;
         if !planted::<F>(Fault::RestNotTested) {

@@ -1,5 +1,5 @@
-//! The independent codec, written from document 01 and ticket 1 of document 02 alone: what other
-//! codecs are compared with, and the baseline for their speed.
+//! The independent codec, written from document 01 and tickets 1 and 2 of document 02 alone: what
+//! other codecs are compared with, and the baseline for their speed.
 //!
 //! No call panics or overflows, whatever it is given. Reading and writing allocate nothing.
 //!

@@ -47,7 +47,7 @@ impl<'a> Opened<'a> {
             return Err(Refusal::new(Refusal::MESSAGE_ENDS, self.place));
         }
         if width > TAKE_MOST {
-            return Err(Refusal::new(Refusal::ABOVE_MOST, self.place));
+            return Err(Refusal::new(Refusal::OUTSIDE_LIMITS, self.place));
         }
         if width > left {
             return Err(Refusal::new(Refusal::MESSAGE_ENDS, self.place));

@@ -1,7 +1,6 @@
 //! Reading under a table.
 
 use super::bits::{fetch, index_width, number_width};
-use super::lm::lm_table;
 use super::table::{branch_row, field_optional, field_row, Row};
 use super::{planted, Engine, MESSAGE_MOST, VARIABLE_BASES};
 use crate::codec::{Answer, Refusal};
@@ -143,13 +142,13 @@ impl<V: ValueSlice + ?Sized, const F: u8> Reader<'_, V, F> {
             Row::Variable => self.variable(),
             Row::FixedRun { count, item } => self.run(count, item),
             Row::CountedRun { most, item } => {
-                let count = self.length(most)?;
+                let count = self.length(0, most)?;
                 self.run(count, item)
             }
             Row::Record { fields } => self.record(fields),
             Row::Choice { branches } => self.choice(branches),
-            Row::Octets { most } => {
-                let length = self.length(most)?;
+            Row::Octets { least, most } => {
+                let length = self.length(least, most)?;
                 self.octets(length)
             }
         }
@@ -185,7 +184,7 @@ impl<V: ValueSlice + ?Sized, const F: u8> Reader<'_, V, F> {
         self.keep(base + content as i64, width)
     }
 
-    pub(super) fn length(&mut self, most: u32) -> Result<usize, Refusal> {
+    pub(super) fn length(&mut self, least: u32, most: u32) -> Result<usize, Refusal> {
         self.need(8)?;
         let first = self.peek(8);
         let (length, width) = match first >> 6 {
@@ -196,6 +195,9 @@ impl<V: ValueSlice + ?Sized, const F: u8> Reader<'_, V, F> {
                 }
                 self.need(16)?;
                 let length = self.peek(16) & 0x3FFF;
+                if planted::<F>(Fault::LeastBeforeForm) && length < u64::from(least) {
+                    return Err(self.refusal(Refusal::OUTSIDE_LIMITS));
+                }
                 if length < 128 && !planted::<F>(Fault::ShortInLongForm) {
                     return Err(self.refusal(Refusal::BAD_LENGTH));
                 }
@@ -203,8 +205,16 @@ impl<V: ValueSlice + ?Sized, const F: u8> Reader<'_, V, F> {
             }
             _ => return Err(self.refusal(Refusal::BAD_LENGTH)),
         };
-        if length > u64::from(most) {
-            return Err(self.refusal(Refusal::ABOVE_MOST));
+        if planted::<F>(Fault::RoomBeforeLimits) {
+            self.need_room()?;
+        }
+        let least = if planted::<F>(Fault::OpenEmptyRead) {
+            0
+        } else {
+            least
+        };
+        if !(u64::from(least)..=u64::from(most)).contains(&length) {
+            return Err(self.refusal(Refusal::OUTSIDE_LIMITS));
         }
         self.keep(length as i64, width)?;
         Ok(length as usize)
@@ -378,7 +388,7 @@ impl<const F: u8> Engine<F> {
             values.clear_from(0);
             return refusal.into();
         }
-        let lm = lm_table();
+        let lm = Self::lm();
         Self::read_root(&lm.octets, lm.root, message, values)
     }
 }

@@ -22,8 +22,9 @@ const N_HOP_FORWARDING: u8 = 2;
 const SUBTYPE_MOST: u8 = 2;
 /// The octets of a Link-ID.
 const LINK_ID: usize = 8;
-/// The extension elements that a header may have.
+/// The extension elements that a header may have, and the fewest octets of one's contents.
 const ELEMENTS_MOST: i64 = 255;
+const CONTENTS_LEAST: u8 = 1;
 
 /// Reads an LM by name into the value slice.
 pub fn read_lm_into(message: &[u8], values: &mut [i64]) -> Answer {
@@ -67,7 +68,7 @@ fn read(message: &[u8], values: &mut [i64]) -> Result<usize, Refusal> {
     };
     reader.n_header(subtype)?;
     reader.t_header()?;
-    reader.octets()?; // user data
+    reader.octets(0)?; // user data
     if !reader.rest.is_empty() {
         return Err(reader.refusal(Refusal::NOT_PADDING));
     }
@@ -195,7 +196,7 @@ impl Reader<'_> {
 
     #[inline(always)]
     fn extensions(&mut self) -> Result<(), Refusal> {
-        for _ in 0..self.length(ELEMENTS_MOST)? {
+        for _ in 0..self.length(0, ELEMENTS_MOST)? {
             self.element()?;
         }
         Ok(())
@@ -204,12 +205,12 @@ impl Reader<'_> {
     /// An extension element. The usual one has a length of one octet, which is taken with its ID.
     #[inline(always)]
     fn element(&mut self) -> Result<(), Refusal> {
-        if let &[id, length @ 0..128, ..] = self.rest {
+        if let &[id, length @ CONTENTS_LEAST..128, ..] = self.rest {
             self.keep(2, [id, length].map(i64::from), [0, 8])?;
             return self.run(usize::from(length));
         }
         self.number::<1>()?;
-        self.octets()
+        self.octets(i64::from(CONTENTS_LEAST))
     }
 
     #[inline(always)]
@@ -238,7 +239,7 @@ impl Reader<'_> {
     }
 
     #[inline(always)]
-    fn length(&mut self, most: i64) -> Result<usize, Refusal> {
+    fn length(&mut self, least: i64, most: i64) -> Result<usize, Refusal> {
         let [first] = self.next()?;
         let (size, length) = match first >> 6 {
             0b00 | 0b01 => (1, i64::from(first)),
@@ -251,8 +252,8 @@ impl Reader<'_> {
             }
             _ => return Err(self.refusal(Refusal::BAD_LENGTH)),
         };
-        if length > most {
-            return Err(self.refusal(Refusal::ABOVE_MOST));
+        if !(least..=most).contains(&length) {
+            return Err(self.refusal(Refusal::OUTSIDE_LIMITS));
         }
         self.keep(size, [length], [0])?;
         Ok(length as usize)
@@ -260,8 +261,8 @@ impl Reader<'_> {
 
     /// A length, then so many octets.
     #[inline(always)]
-    fn octets(&mut self) -> Result<(), Refusal> {
-        let length = self.length(i64::from(LENGTH_MOST))?;
+    fn octets(&mut self, least: i64) -> Result<(), Refusal> {
+        let length = self.length(least, i64::from(LENGTH_MOST))?;
         self.run(length)
     }
 

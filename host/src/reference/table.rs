@@ -1,5 +1,5 @@
-//! The rows of a table (document 01, "Row layout"), and the check, which tells the first row that
-//! breaks a rule and its first part that does (document 02, ticket 1).
+//! The rows of a table (document 01, "Row layout"; document 02, ticket 2), and the check, which tells
+//! the first row that breaks a rule and its first part that does (document 02, ticket 1).
 
 use std::ops::RangeInclusive;
 
@@ -32,7 +32,9 @@ pub enum Row<'a> {
     Choice {
         branches: &'a [[u8; 2]],
     },
+    /// Octets and open octets differ in the least length alone.
     Octets {
+        least: u32,
         most: u32,
     },
 }
@@ -43,7 +45,8 @@ impl<'a> Row<'a> {
     #[inline]
     pub fn at(table: &'a [u8], offset: usize) -> Row<'a> {
         let row = &table[offset..];
-        match u16::from(row[2]) {
+        let kind = u16::from(row[2]);
+        match kind {
             kind::NUMBER => Row::Number {
                 low: i64::from(i32::from_le_bytes([row[4], row[5], row[6], row[7]])),
                 span: u32::from_le_bytes([row[8], row[9], row[10], row[11]]),
@@ -64,9 +67,19 @@ impl<'a> Row<'a> {
                 branches: row[6..6 + 2 * usize::from(word(row, 4))].as_chunks().0,
             },
             _ => Row::Octets {
+                least: u32::from(least_length(kind)),
                 most: u32::from(word(row, 4)),
             },
         }
+    }
+}
+
+/// The least length of octets, by the row's kind.
+#[inline]
+const fn least_length(kind: u16) -> u16 {
+    match kind {
+        kind::OPEN_OCTETS => 1,
+        _ => 0,
     }
 }
 
@@ -177,13 +190,18 @@ fn within(number: u16, bounds: RangeInclusive<u16>) -> Result<(), Part> {
 
 /// The bounds of a count, a limit or m, by the row's kind.
 mod bounds {
-    use super::{RangeInclusive, LENGTH_MOST};
+    use super::{least_length, RangeInclusive, LENGTH_MOST};
 
     pub const FIXED_RUN: RangeInclusive<u16> = 1..=1_024;
     pub const COUNTED_RUN: RangeInclusive<u16> = 1..=LENGTH_MOST as u16;
     pub const RECORD: RangeInclusive<u16> = 1..=32;
     pub const CHOICE: RangeInclusive<u16> = 2..=128;
-    pub const OCTETS: RangeInclusive<u16> = 0..=LENGTH_MOST as u16;
+
+    /// A limit of octets lets their least length through.
+    #[inline]
+    pub fn octets(kind: u16) -> RangeInclusive<u16> {
+        least_length(kind)..=LENGTH_MOST as u16
+    }
 }
 
 impl<const F: u8> Engine<F> {
@@ -277,15 +295,25 @@ impl<const F: u8> Engine<F> {
             kind::COUNTED_RUN => Self::test_run(row, bounds::COUNTED_RUN, depths)?,
             kind::RECORD => Self::test_record(row, depths)?,
             kind::CHOICE => Self::test_choice(row, depths)?,
-            kind::OCTETS => {
-                within(word(of_length::<6>(row)?, 4), bounds::OCTETS)?;
-                0
+            kind::OCTETS | kind::OPEN_OCTETS => Self::test_octets(row, kind)?,
+            _ if planted::<F>(Fault::KindNinePasses) && kind == kind::OPEN_OCTETS + 1 => {
+                Self::test_octets(row, kind::OPEN_OCTETS)?
             }
             _ => return Err(Refusal::UNKNOWN_KIND),
         };
         let depth_most = DEPTH_MOST + u8::from(planted::<F>(Fault::DepthOneMore));
         hold(deepest < depth_most, Refusal::TOO_DEEP)?;
         Ok((length, deepest + 1))
+    }
+
+    /// Octets refer to no row.
+    #[inline]
+    fn test_octets(row: &[u8], kind: u16) -> Result<u8, Part> {
+        let most = word(of_length::<6>(row)?, 4);
+        if !planted::<F>(Fault::OpenMostZero) || most > 0 {
+            within(most, bounds::octets(kind))?;
+        }
+        Ok(0)
     }
 
     /// The depth of the row that a run refers to.
@@ -374,7 +402,7 @@ impl<const F: u8> Engine<F> {
             return Ok(());
         };
         if planted::<F>(Fault::KindBeforeEnd) {
-            let known = (kind::NUMBER..=kind::OCTETS).contains(&kind);
+            let known = (kind::NUMBER..=kind::OPEN_OCTETS).contains(&kind);
             hold(known, Refusal::UNKNOWN_KIND)?;
         }
         if planted::<F>(Fault::ShortLengthAsEnd) {
@@ -392,7 +420,7 @@ impl<const F: u8> Engine<F> {
                 kind::COUNTED_RUN => bounds::COUNTED_RUN,
                 kind::RECORD => bounds::RECORD,
                 kind::CHOICE => bounds::CHOICE,
-                kind::OCTETS => bounds::OCTETS,
+                kind::OCTETS | kind::OPEN_OCTETS => bounds::octets(kind),
                 _ => 0..=u16::MAX,
             };
             within(count, bounds)?;

@@ -1,7 +1,6 @@
 //! Writing under a table.
 
 use super::bits::{index_width, number_width};
-use super::lm::lm_table;
 use super::table::{branch_row, field_optional, field_row, Row};
 use super::{planted, Engine, MESSAGE_MOST, VARIABLE_BASES, VARIABLE_MOST};
 use crate::codec::{Answer, Refusal};
@@ -107,13 +106,13 @@ impl<L: ValueList + ?Sized, const F: u8> Writer<'_, L, F> {
             Row::Variable => self.variable(),
             Row::FixedRun { count, item } => self.run(count, item),
             Row::CountedRun { most, item } => {
-                let count = self.length(most)?;
+                let count = self.length(0, most)?;
                 self.run(count, item)
             }
             Row::Record { fields } => self.record(fields),
             Row::Choice { branches } => self.choice(branches),
-            Row::Octets { most } => {
-                for _ in 0..self.length(most)? {
+            Row::Octets { least, most } => {
+                for _ in 0..self.length(least, most)? {
                     let octet = self.next(0, 255)?;
                     self.put(octet as u64, 8)?;
                 }
@@ -136,8 +135,13 @@ impl<L: ValueList + ?Sized, const F: u8> Writer<'_, L, F> {
         self.put(leading << (7 * octets) | content, 8 * octets)
     }
 
-    fn length(&mut self, most: u32) -> Result<usize, Refusal> {
-        let length = self.next(0, i64::from(most))? as u64;
+    fn length(&mut self, least: u32, most: u32) -> Result<usize, Refusal> {
+        let least = if planted::<F>(Fault::OpenEmptyWritten) {
+            0
+        } else {
+            least
+        };
+        let length = self.next(i64::from(least), i64::from(most))? as u64;
         if length < 128 {
             self.put(length, 8)?;
         } else {
@@ -262,7 +266,7 @@ impl<const F: u8> Engine<F> {
             output.fill(0);
             return refusal.into();
         }
-        let lm = lm_table();
+        let lm = Self::lm();
         Self::write_root(&lm.octets, lm.root, values, output)
     }
 }

@@ -116,7 +116,7 @@ impl Codec for ByName<'_> {
 /// What taking k bits at a place gives (document 01; of no bits none is missing, wherever the place is).
 fn taken(message: &[u8], place: usize, k: u32) -> Result<Bits, Refusal> {
     if k > 32 {
-        return Err(Refusal::new(Refusal::ABOVE_MOST, place));
+        return Err(Refusal::new(Refusal::OUTSIDE_LIMITS, place));
     }
     let held = match message.len() {
         0..=MESSAGE_MOST => 8 * message.len(),
