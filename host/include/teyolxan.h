@@ -45,6 +45,9 @@ enum {
     TEYOLXAN_REFUSED_TOO_DEEP = 26
 };
 
+/* The name of 6 before it told lengths below a least, too. */
+#define TEYOLXAN_REFUSED_ABOVE_MOST TEYOLXAN_REFUSED_OUTSIDE_LIMITS
+
 void teyolxan_check(const uint8_t *table, size_t table_length, uint64_t numbers[6]);
 
 void teyolxan_read(const uint8_t *table, size_t table_length,

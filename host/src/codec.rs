@@ -72,6 +72,12 @@ refusals! {
 }
 
 impl Refusal {
+    /// The name of 6 before it told lengths below a least, too.
+    #[deprecated(note = "its name is `OUTSIDE_LIMITS`")]
+    pub const ABOVE_MOST: u32 = Refusal::OUTSIDE_LIMITS;
+}
+
+impl Refusal {
     /// The highest number. Not every number below it is a refusal's.
     pub const HIGHEST: u32 = Refusal::ALL[Refusal::ALL.len() - 1];
 

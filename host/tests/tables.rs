@@ -313,3 +313,50 @@ fn the_example_reads_and_writes() {
     let written = printed(&notice(), &words("write", LIST));
     assert!(written.contains(MESSAGE), "{written}");
 }
+
+/// The document's messages under the example's table, each with its answer; and the one that is
+/// read there with no octets in its note, where the note's row is open octets.
+#[test]
+fn messages_have_their_answers() {
+    let (_, given) = TABLES
+        .split_once("Under the table of the example:\n")
+        .expect("the part");
+    let lines = given.lines().skip_while(|line| line.is_empty());
+    let cells = lines
+        .take_while(|line| line.starts_with('|'))
+        .filter_map(|line| {
+            line.strip_prefix("| `")?
+                .strip_suffix(" |")?
+                .split_once("` | ")
+        });
+    let read = |file: &Path, message: &str| {
+        let words: Vec<&str> = ["read"].into_iter().chain(message.split(' ')).collect();
+        printed(file, &words)
+    };
+    let mut seen = 0;
+    for (message, answer) in cells {
+        let told = match answer.split_once(", ") {
+            Some(("read", rest)) => {
+                let (values, _) = rest.split_once(':').expect("so many values");
+                format!("accepted: {values}")
+            }
+            _ => format!("refused {}", answer.split(':').next().unwrap_or(answer)),
+        };
+        let said = read(&notice(), message);
+        assert!(said.contains(&told), "{message}: {said} is not {told}");
+        seen += 1;
+    }
+    assert_eq!(seen, 10);
+
+    const EMPTY: &str = "C0 56 23 01 14 14 20 00 29 6C 80";
+    const ROW: [&str; 2] = ["06 00 07 00 14 00", "06 00 08 00 14 00"];
+    assert!(TABLES.contains(&format!("| `{EMPTY}` | read, 11 values")));
+    assert!(TABLES.contains(&format!("row of kind 8, `{}` | 6 at 52", ROW[1])));
+    assert!(NOTICE.contains(ROW[0]));
+    let open = written("open-note.txt", NOTICE.replace(ROW[0], ROW[1]));
+    let said = read(&open, EMPTY);
+    assert!(said.contains("refused 6 at 52"), "{said}");
+    let words = "write 1 300 -5 0 17 65 66 0 2 150 200";
+    let said = printed(&open, &words.split(' ').collect::<Vec<_>>());
+    assert!(said.contains("refused 12 at 7"), "{said}");
+}

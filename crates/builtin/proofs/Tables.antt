@@ -13,7 +13,7 @@ use Rattle.table.proofs.Decides.{passes-exactly}
 use Rattle.table.proofs.LastRow.{root-is}
 use Rattle.builtin.specs.Tables.{lm, sam, srm}
 use Rattle.builtin.specs.Layout.{lmRows, samRows, srmRows}
-use Rattle.builtin.specs.Built.{Rows, Built, MayBeEmpty, BuiltIn}
+use Rattle.builtin.specs.Built.{Rows, Built, LeastLengths, BuiltIn}
 
 -- ── each passes the check, and so obeys the rules ──
 
@@ -68,9 +68,9 @@ srm-rows : Rows srm 0 srmRows
 unfolding srm srmRows u16 u32 signed u16s rowOf rowAt rowLength
 srm-rows = (refl, refl, (refl, refl, (refl, refl, (refl, refl, (refl, refl, (refl, refl, (refl, refl, (refl, refl, (refl, refl, (refl, refl, (refl, refl, (refl, refl, (refl, refl, (refl, refl, (refl, refl, (refl, refl, (refl, refl, refl)))))))))))))))))
 
-may-be-empty : MayBeEmpty
+least-lengths : LeastLengths
 unfolding lm sam srm u16 rowOf rowAt
-may-be-empty = record { lmContents = refl; samContents = refl; srmContents = refl; contextData = refl; userData = refl; systemService = refl }
+least-lengths = record { lmContents = refl; samContents = refl; srmContents = refl; contextData = refl; userData = refl; systemService = refl }
 
 -- ── together ──
 
@@ -84,5 +84,5 @@ built-in = record {
   anLm = built lm lmRows 546 lm-passes lm-rows lm-root;
   aSam = built sam samRows 342 sam-passes sam-rows sam-root;
   anSrm = built srm srmRows 180 srm-passes srm-rows srm-root;
-  empty = may-be-empty;
+  leastLengths = least-lengths;
 }

@@ -1,5 +1,5 @@
 -- What holds of the built-in tables (document 01, "LM, SAM and SRM": all three pass the check): each passes, obeys the rules, is the
--- rows that Layout.antt lists and no others, and ends with its root; and which of their octets may be empty. The proof is
+-- rows that Layout.antt lists and no others, and ends with its root; and the least lengths of its octets. The proof is
 -- proofs/Tables.antt.
 use Prim.Native.Nat.{ℕ, _+_}
 use mathlib.Core.Path.{_≡_}
@@ -25,9 +25,9 @@ pub record Built (table : List ℕ) (list : List (ℕ × Row)) (last : ℕ) : Ty
   pub listed : Rows table 0 list
   pub root : IsRoot table last
 
--- which octets may be empty (document 02, ticket 2): never an element's contents, nor a context's data in an SRM; but an LM's user
--- data and a SAM's system service
-pub record MayBeEmpty : Type 0 where
+-- the least lengths of octets (document 02, ticket 2): 1 for an element's contents, and a context's data in an SRM; 0, so that they may
+-- be empty, for an LM's user data and a SAM's system service
+pub record LeastLengths : Type 0 where
   pub lmContents : rowAt lm 24 ≡ Octets 1 16383
   pub samContents : rowAt sam 24 ≡ Octets 1 16383
   pub srmContents : rowAt srm 24 ≡ Octets 1 16383
@@ -39,4 +39,4 @@ pub record BuiltIn : Type 0 where
   pub anLm : Built lm lmRows 546
   pub aSam : Built sam samRows 342
   pub anSrm : Built srm srmRows 180
-  pub empty : MayBeEmpty
+  pub leastLengths : LeastLengths
