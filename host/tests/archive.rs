@@ -11,7 +11,7 @@ use teyolxan_host::compare::{compare, compare_one, Stats};
 use teyolxan_host::guarded::Guarded;
 use teyolxan_host::reference::REFERENCE;
 use teyolxan_host::settings;
-use teyolxan_host::vectors::{parse, run, Vector, BASE, EDGES, FILES, STAGE02};
+use teyolxan_host::vectors::{parse, run, Vector, BASE, EDGES, FILES, STAGE01, STAGE02};
 
 /// Cases for the libraries against the reference; more where the build is optimised.
 const CASES: u64 = if cfg!(debug_assertions) {
@@ -51,6 +51,14 @@ fn edges() {
     assert_eq!(
         passes(&ARCHIVE, &vectors(EDGES)),
         [224, 140, 92, 34, 18, 3, 9, 2]
+    );
+}
+
+#[test]
+fn stage01() {
+    assert_eq!(
+        passes(&ARCHIVE, &vectors(STAGE01)),
+        [611, 157, 73, 35, 11, 0, 7, 11]
     );
 }
 

@@ -7,7 +7,7 @@ use std::process::{Command, Stdio};
 use std::thread;
 
 use teyolxan_host::codec::{Call, Codec};
-use teyolxan_host::vectors::{parse, run, BASE, EDGES, STAGE02};
+use teyolxan_host::vectors::{parse, run, BASE, EDGES, STAGE01, STAGE02};
 
 fn root() -> PathBuf {
     Path::new(env!("CARGO_MANIFEST_DIR"))
@@ -56,7 +56,7 @@ impl Codec for Program {
 
 #[test]
 fn vectors() {
-    for (text, count) in [(BASE, 53), (EDGES, 13), (STAGE02, 36)] {
+    for (text, count) in [(BASE, 53), (EDGES, 13), (STAGE01, 3), (STAGE02, 36)] {
         let report = run(&Program, &parse(text).expect("the file is well formed"));
         assert!(
             report.differences.is_empty(),

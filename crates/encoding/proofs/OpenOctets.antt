@@ -17,7 +17,7 @@ use Rattle.answer.specs.Numbers.{refusalAt}
 use Rattle.item.specs.Code.{number, lengthWithin, natural, allows, valueBits, Got, got, bad, provided, onesUpTo, leastOf, decodeOffset, decodeItem, above}
 use Rattle.item.proofs.Ranges.{item-ranges}
 use Rattle.row.specs.Rows.{rowOf, rowLength, within}
-use Rattle.rules.specs.Rules.{knownKind, numbersInBounds, references}
+use Rattle.rules.specs.Rules.{knownKind, numbersInBounds, references, hasBranch}
 use Rattle.items.specs.Items.{Items, ask, one, times, Allows, encodingBits}
 use Rattle.items.specs.Reading.{Reading, readOne, readItems}
 use Rattle.items.specs.Writing.{Writing, unless, writeItems}
@@ -116,7 +116,7 @@ module _ (most : ℕ) where
         go (negsuc n) t w = refl
 
 pub open-octets : (t : List ℕ) (o : ℕ) (g : ℕ → Items) → OpenOctets t o g
-unfolding rowOf rowLength rowItems knownKind references numbersInBounds within
+unfolding rowOf rowLength rowItems knownKind references hasBranch numbersInBounds within
 open-octets t o g =
     let most = u16 t (o + 4) in
     let octets : ℤ → Items = λ v. times (natural v) (one (number (pos 0) 255)) in
@@ -124,6 +124,7 @@ open-octets t o g =
       known = refl;
       long = refl;
       refers = refl;
+      branch = refl;
       inBounds = rw (le-leb 0 most (omega arith));
       lists = lists-open most octets;
       bits = same-bits;

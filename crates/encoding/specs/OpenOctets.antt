@@ -12,7 +12,7 @@ use Rattle.octets.specs.Numbers.{u16}
 use Rattle.answer.specs.Numbers.{outsideLimits, wrongValue, refusalAt}
 use Rattle.item.specs.Code.{Got, got, bad, lengthWithin, decodeItem}
 use Rattle.row.specs.Rows.{rowOf, rowLength}
-use Rattle.rules.specs.Rules.{knownKind, numbersInBounds, references}
+use Rattle.rules.specs.Rules.{knownKind, numbersInBounds, references, hasBranch}
 use Rattle.items.specs.Items.{Items, Allows, encodingBits}
 use Rattle.items.specs.Reading.{Reading, stuck, readItems}
 use Rattle.items.specs.Writing.{Writing, halted, writeItems}
@@ -34,10 +34,11 @@ unlessEmptyWritten i (negsuc n ∷ vs) x = x
 
 -- the row at o of any octets; g for the rows that a row refers to, though neither refers to any
 pub record OpenOctets (t : List ℕ) (o : ℕ) (g : ℕ → Items) : Type 0 where
-  -- in a table: known, as long, with no references; and in bounds where octets are and the most is not 0
+  -- in a table: known, as long, with no references and no branches; and in bounds where octets are and the most is not 0
   pub known : knownKind (rowOf t o 8) ≡ true
   pub long : rowLength (rowOf t o 8) ≡ rowLength (rowOf t o 7)
   pub refers : references (rowOf t o 8) ≡ references (rowOf t o 7)
+  pub branch : hasBranch (rowOf t o 8) ≡ hasBranch (rowOf t o 7)
   pub inBounds : numbersInBounds (rowOf t o 8) ≡ leb 1 (u16 t (o + 4)) && numbersInBounds (rowOf t o 7)
   -- the lists that octets allow, but those that start with 0; each with the same bits
   pub lists : (v : ℤ) (vs : List ℤ) → Allows (rowItems g (rowOf t o 8)) (v ∷ vs) ↔ ((v ≢ pos 0) × Allows (rowItems g (rowOf t o 7)) (v ∷ vs))

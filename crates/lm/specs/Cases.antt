@@ -1,5 +1,5 @@
--- Document 01's marked cases, P1 to P3 and P7 to P10 of "Messages on the edge", and the corners of document 02's ticket 2: 21
--- as one list, and one in writing. That the definitions give them is `Given`; the proof is proofs/Cases.antt.
+-- Document 01's marked cases, P1 to P3 and P7 to P10 of "Messages on the edge": twelve, as one list. Then the corners of document 02's
+-- ticket 2: what may be empty, and what not. That the definitions give them is `Given`; the proof is proofs/Cases.antt.
 use Prim.Native.Nat.{ℕ}
 use mathlib.Core.Path.{_≡_}
 use mathlib.Core.List.{List, [], _∷_, map}
@@ -8,6 +8,7 @@ use Rattle.answer.specs.Numbers.{refusalAt}
 use Rattle.items.specs.Reading.{ReadOutcome, accept, refuse}
 use Rattle.items.specs.Writing.{unwritten}
 use Rattle.encoding.specs.Reading.{readOutcome}
+use Rattle.builtin.specs.Tables.{sam, srm}
 use Rattle.lm.specs.ByName.{readLmOutcome, writeLmOutcome}
 
 -- what is read: an LM by name, or a message under a lent table
@@ -38,14 +39,6 @@ signedOctet = 0x0c ∷ 0x00 ∷ 0x01 ∷ 0x00 ∷ 0x80 ∷ 0xff ∷ 0xff ∷ 0xf
 abbrev pub onlyFive : List ℕ
 onlyFive = 0x0c ∷ 0x00 ∷ 0x01 ∷ 0x00 ∷ 0x05 ∷ 0x00 ∷ 0x00 ∷ 0x00 ∷ 0x00 ∷ 0x00 ∷ 0x00 ∷ 0x00 ∷ []
 
--- one of open octets, most 2
-abbrev pub oneOrTwo : List ℕ
-oneOrTwo = 0x06 ∷ 0x00 ∷ 0x08 ∷ 0x00 ∷ 0x02 ∷ 0x00 ∷ []
-
--- an LM's list with an element 4 that has no octets
-abbrev pub emptyElement : List ℤ
-emptyElement = pos 0 ∷ pos 1 ∷ pos 3 ∷ pos 1 ∷ pos 4 ∷ pos 0 ∷ pos 0 ∷ pos 0 ∷ pos 0 ∷ pos 0 ∷ []
-
 unfoldable pub cases : List Case
 cases =
     -- P1
@@ -67,11 +60,25 @@ cases =
     -- P10
     ∷ record { asked = anLm (0x04 ∷ []); gives = refuse (refusalAt 10 5) }
     ∷ record { asked = anLm (0x33 ∷ []); gives = refuse (refusalAt 11 0) }
-    -- an element with no octets; its length of 0 in two octets, which is no length; an LM with no user data
-    ∷ record { asked = anLm (0x0b ∷ 0x01 ∷ 0x04 ∷ 0x00 ∷ 0x00 ∷ 0x00 ∷ 0x00 ∷ []); gives = refuse (refusalAt 6 24) }
+    ∷ []
+
+-- open octets, one row of them, most 2
+abbrev pub oneOrTwo : List ℕ
+oneOrTwo = 0x06 ∷ 0x00 ∷ 0x08 ∷ 0x00 ∷ 0x02 ∷ 0x00 ∷ []
+
+unfoldable pub emptyCases : List Case
+emptyCases =
+    -- an element with no octets, in an LM, a SAM and an SRM; and a context with none, in an SRM
+    record { asked = anLm (0x0b ∷ 0x01 ∷ 0x04 ∷ 0x00 ∷ 0x00 ∷ 0x00 ∷ 0x00 ∷ []); gives = refuse (refusalAt 6 24) }
+    ∷ record { asked = under sam (0x38 ∷ 0x00 ∷ 0x01 ∷ 0x11 ∷ 0x00 ∷ []); gives = refuse (refusalAt 6 32) }
+    ∷ record { asked = under srm (0x38 ∷ 0x01 ∷ 0x04 ∷ 0x00 ∷ []); gives = refuse (refusalAt 6 24) }
+    ∷ record { asked = under srm (0x32 ∷ 0x01 ∷ 0x00 ∷ 0x01 ∷ 0x00 ∷ 0xc0 ∷ 0x01 ∷ []); gives = refuse (refusalAt 6 32) }
+    -- its length of 0 in two octets, which is no length
     ∷ record { asked = anLm (0x0b ∷ 0x01 ∷ 0x04 ∷ 0x80 ∷ 0x00 ∷ 0x00 ∷ 0x00 ∷ 0x00 ∷ []); gives = refuse (refusalAt 5 24) }
+    -- no user data, and a system service of no octets
     ∷ record { asked = anLm (0x03 ∷ 0x00 ∷ 0x20 ∷ 0x00 ∷ []); gives = accept (pos 0 ∷ pos 0 ∷ pos 3 ∷ pos 0 ∷ pos 0 ∷ pos 32 ∷ pos 0 ∷ []) 32 }
-    -- open octets: a length of 0, in one octet, in two, and cut; of 1, of 2, of 3
+    ∷ record { asked = under sam (0x34 ∷ 0x00 ∷ 0x01 ∷ 0x20 ∷ 0x0c ∷ 0x00 ∷ []); gives = accept (pos 3 ∷ pos 0 ∷ pos 1 ∷ pos 0 ∷ pos 0 ∷ pos 0 ∷ pos 0 ∷ pos 1 ∷ pos 32 ∷ pos 1 ∷ pos 1 ∷ pos 0 ∷ pos 0 ∷ pos 0 ∷ []) 48 }
+    -- a row of its own: a length of 0, in one octet, in two, and cut; of 1, of 2, of 3
     ∷ record { asked = under oneOrTwo (0x00 ∷ []); gives = refuse (refusalAt 6 0) }
     ∷ record { asked = under oneOrTwo (0x80 ∷ 0x00 ∷ []); gives = refuse (refusalAt 5 0) }
     ∷ record { asked = under oneOrTwo (0x80 ∷ []); gives = refuse (refusalAt 2 0) }
@@ -80,7 +87,12 @@ cases =
     ∷ record { asked = under oneOrTwo (0x03 ∷ 0x48 ∷ 0x69 ∷ 0x21 ∷ []); gives = refuse (refusalAt 6 0) }
     ∷ []
 
--- the definitions give every case its outcome; and the list is not written, for the element's length
+-- an LM's list with an element 4 that has no octets
+abbrev pub emptyElement : List ℤ
+emptyElement = pos 0 ∷ pos 1 ∷ pos 3 ∷ pos 1 ∷ pos 4 ∷ pos 0 ∷ pos 0 ∷ pos 0 ∷ pos 0 ∷ pos 0 ∷ []
+
+-- the definitions give every case its outcome; and that list is not written, for the element's length
 pub record Given : Type 0 where
   pub outcomes : map (λ (c : Case). outcome (c .asked)) cases ≡ map (λ (c : Case). c .gives) cases
-  pub unwrittenEmpty : writeLmOutcome emptyElement 1024 ≡ unwritten (refusalAt 12 5)
+  pub emptyOutcomes : map (λ (c : Case). outcome (c .asked)) emptyCases ≡ map (λ (c : Case). c .gives) emptyCases
+  pub emptyUnwritten : writeLmOutcome emptyElement 1024 ≡ unwritten (refusalAt 12 5)

@@ -96,7 +96,8 @@ pub fn octets(
     requires { ⌜ Obeys (now table) × Starts (now table) at × (isOctets (u16 (now table) (at + 2)) ≡ true) × (length (now message) ≤ mostOctets) ⌝ }
     ensures { λ r. ⌜ Reads (now (message .entry)) room (items (now (table .entry)) at) (stateAt cursor (now (values .entry)) (now (packed .entry))) (now (values .exit)) (now (packed .exit)) r ⌝ }
 {
-    let least = Row::least_at(table, at);
+    let kind = Row::kind_at(table, at);
+    let least = Row::least_length(kind);
     let most = Row::count_at(table, at);
     let item = read_item::length(&*message, cursor.place, least, most as u32);
     let step = read_steps::kept(item, values, packed, room, cursor);

@@ -1,5 +1,5 @@
-// The row type: what document 01's table of rows ("Row layout") says by kind, and the numbers that stand in a row, which is
-// told by the offset of its first octet.
+// The row type: what document 01's table of rows ("Row layout"), with document 02's kind 8, says by kind, and the numbers that stand in
+// a row, which is told by the offset of its first octet.
 
 ghost use mathlib.Core.Path.{_≡_};
 ghost use Prim.Native.Nat.{_+_, _*_, _≤_, _<_};
@@ -130,6 +130,13 @@ impl Row {
         }
     }
 
+    // The least length of octets; the most is their count.
+    pub fn least_length(kind: usize) -> u32
+        ensures { λ r. ⌜ r ≡ leastLength kind ⌝ }
+    {
+        if kind == Row::OPEN_OCTETS { 1 } else { 0 }
+    }
+
     // How many references a row has, reserved branches too.
     pub fn reference_count(kind: usize, count: usize) -> usize
         ensures { λ r. ⌜ r ≡ referenceCount kind count ⌝ }
@@ -208,15 +215,6 @@ impl Row {
         } else {
             0
         }
-    }
-
-    // The least length of octets: their count is the most.
-    pub fn least_at(table: &[u8], at: usize) -> u32
-        requires { ⌜ at + 4 ≤ length (now table) ⌝ }
-        ensures { λ r. ⌜ r ≡ leastLength (u16 (now (table .entry)) (at + 2)) ⌝ }
-    {
-        let kind = Row::kind_at(table, at);
-        if kind == Row::OPEN_OCTETS { 1 } else { 0 }
     }
 
     // The low of a number.

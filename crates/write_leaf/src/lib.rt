@@ -91,7 +91,8 @@ pub fn octets(
     let Given::Value(value, after) = given else {
         return Step::Refused(write_steps::missing(cursor.index));
     };
-    let least = Row::least_at(table, at);
+    let kind = Row::kind_at(table, at);
+    let least = Row::least_length(kind);
     let most = Row::count_at(table, at);
     let put = write_item::length(output, cursor.place, least, most as u32, value);
     let step = write_steps::moved(put, cursor.index, after);

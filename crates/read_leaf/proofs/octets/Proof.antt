@@ -27,23 +27,23 @@ row-items : (s : tie.Start) → items (now (s .args .table)) (s .args .at) ≡ a
 unfolding lengthCode
 row-items s = items-octets (now (s .args .table)) (s .args .at) _ _ (octets-row (s .pre .0) (s .pre .1) (s .pre .2) .0)
 
-least-at-requires : tie.Need-least-at-requires
-least-at-requires c κs =
+kind-at-requires : tie.Need-kind-at-requires
+kind-at-requires c κs =
     let s = c .before .before .before in
     omega (arith, octets-row (s .pre .0) (s .pre .1) (s .pre .2) .1)
 
 count-at-requires : tie.Need-count-at-requires
 count-at-requires c κs =
-    let s = c .before .before .before .before in
+    let s = c .before .before .before .before .before in
     octets-row (s .pre .0) (s .pre .1) (s .pre .2) .1
 
 -- the code that is read, as the row has it
-length-asked : (c : tie.After-count-at) → lengthWithin (c .before .least-at .result) (c .count-at .result) ≡ lengthCode (c .before .before .before .before .before)
+length-asked : (c : tie.After-count-at) → lengthWithin (c .before .least-length .result) (c .count-at .result) ≡ lengthCode (c .before .before .before .before .before .before)
 unfolding lengthCode
-length-asked c = rw (c .before .least-at .ensures, c .count-at .ensures .0)
+length-asked c = rw (c .before .least-length .ensures, c .before .before .kind-at .ensures .0, c .count-at .ensures .0)
 
 -- the length, kept
-length-kept : (c : tie.After-kept) → let s = c .before .before .before .before .before .before .before .before .before in let a = s .args in
+length-kept : (c : tie.After-kept) → let s = c .before .before .before .before .before .before .before .before .before .before in let a = s .args in
     Keeping (lengthCode s) (now (a .message)) (a .room) (stateAt (a .cursor) (now (a .values)) (now (a .packed)))
     (c .kept .last .1 .0) (c .kept .last .1 .1 .0) (c .before .before .before .length .result) (c .kept .result)
 length-kept c = keeping _ (length-asked (c .before .before .before .before)) (c .before .before .before .length .ensures) (c .kept .ensures)
@@ -52,21 +52,22 @@ returns : tie.Need-returns
 returns c =
     let kept = c .before .before .before .before .before in
     let told = c .enum-told .given .1 in
-    rw told (first-refused _ _ (row-items (kept .before .before .before .before .before .before .before .before .before)) (length-kept kept) told)
+    rw told (first-refused _ _ (row-items (kept .before .before .before .before .before .before .before .before .before .before)) (length-kept kept) told)
 
 returns-2 : tie.Need-returns-2
 returns-2 c =
     let octets = c .before .before .before .read-octets in
     let count = c .before .before .before .before .before .before in
     let kept = count .before .before .before .before .before .before .before in
-    let s = kept .before .before .before .before .before .before .before .before .before in
+    let s = kept .before .before .before .before .before .before .before .before .before .before in
     first-kept _ _ (row-items s) (length-kept kept) (count .before .before .step .given .1) .complete _ _ _ (rw (count .count-of .ensures) at (octets .ensures))
 
 pub octets-spec : {M : Type 1} → statement M
 octets-spec =
     tie.close
     (tie.spec
-    least-at-requires
+    kind-at-requires
+    (λ c κs. search needs)
     count-at-requires
     (λ c. search needs)
     (λ c κs. search needs)

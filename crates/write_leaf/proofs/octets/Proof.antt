@@ -36,20 +36,20 @@ returns c =
     first-missing _ _ (row-items (c .before .before .before .before .before .before .before))
     (next .result) (c .missing .result) (next .ensures) (c .before .enum-told .given .1) (c .missing .ensures)
 
-least-at-requires : tie.Need-least-at-requires
-least-at-requires c κs =
+kind-at-requires : tie.Need-kind-at-requires
+kind-at-requires c κs =
     let s = c .before .before .before .before .before .before .before in
     omega (arith, octets-row (s .pre .0) (s .pre .1) (s .pre .2) .1)
 
 count-at-requires : tie.Need-count-at-requires
 count-at-requires c κs =
-    let s = c .before .before .before .before .before .before .before .before in
+    let s = c .before .before .before .before .before .before .before .before .before in
     omega (arith, octets-row (s .pre .0) (s .pre .1) (s .pre .2) .1)
 
 -- the code that is written, as the row has it
-length-asked : (c : tie.After-count-at) → lengthWithin (c .before .least-at .result) (c .count-at .result) ≡ lengthCode (c .before .before .before .before .before .before .before .before .before)
+length-asked : (c : tie.After-count-at) → lengthWithin (c .before .least-length .result) (c .count-at .result) ≡ lengthCode (c .before .before .before .before .before .before .before .before .before .before)
 unfolding lengthCode
-length-asked c = rw (c .before .least-at .ensures, c .count-at .ensures .0)
+length-asked c = rw (c .before .least-length .ensures, c .before .before .kind-at .ensures .0, c .count-at .ensures .0)
 
 -- the length as the code holds it
 value-held : (c : tie.After-known-told) → toZ w64 (ofZ w64 (c .before .given .given .0 .0)) ≡ c .before .given .given .0 .0
@@ -57,14 +57,14 @@ value-held c = held (c .before .given .given .0 .0) (c .known-told .given .0 .1)
 
 -- the length, put
 value-put : (c : tie.After-moved)
-    → let told = c .before .before .before .before .before .before .before in
+    → let told = c .before .before .before .before .before .before .before .before in
     let s = told .before .before .before .before .before .before .before in let a = s .args in
     Putting (lengthCode s) (listIn (now (a .values)) (now (a .packed))) (stateAt (a .cursor) (now (a .output)))
     (c .before .before .before .length .last .0) (told .before .given .given .0 .0) (c .moved .result)
 value-put c =
     let put = c .before .before .before .length in
     let most = c .before .before .before .before .before in
-    let told = most .before .before in
+    let told = most .before .before .before in
     let next = told .before .before .before .next-value in
     putting _ (next .result) (put .result) _ _ (length-asked most)
     (next .ensures) (told .before .given .given .1) (value-held told) (put .ensures) (c .moved .ensures)
@@ -72,7 +72,7 @@ value-put c =
 returns-2 : tie.Need-returns-2
 returns-2 c =
     let moved = c .before .before in
-    let s = moved .before .before .before .before .before .before .before .before .before .before .before .before .before .before in
+    let s = moved .before .before .before .before .before .before .before .before .before .before .before .before .before .before .before in
     rw (c .enum-told2 .given .1) (first-refused _ _ (row-items s) (value-put moved) (c .enum-told2 .given .1))
 
 returns-3 : tie.Need-returns-3
@@ -80,7 +80,7 @@ returns-3 c =
     let octets = c .before .before .write-octets in
     let count = c .before .before .before .before in
     let moved = count .before .before .before .before in
-    let told = moved .before .before .before .before .before .before .before in
+    let told = moved .before .before .before .before .before .before .before .before in
     let s = told .before .before .before .before .before .before .before in
     first-put _ _ (row-items s) (value-put moved) (count .before .before .step .given .1) .complete _ _ (rw (rw (value-held told) at (count .count-of .ensures)) at (octets .ensures))
 
@@ -93,7 +93,8 @@ octets-spec =
     (λ c. search needs)
     (λ c κs. search needs)
     returns
-    least-at-requires
+    kind-at-requires
+    (λ c κs. search needs)
     count-at-requires
     (λ c. search needs)
     (λ c κs. search needs)
