@@ -32,9 +32,9 @@ unlessEmptyWritten i (pos zero ∷ vs) x = halted (refusalAt wrongValue i)
 unlessEmptyWritten i (pos (suc n) ∷ vs) x = x
 unlessEmptyWritten i (negsuc n ∷ vs) x = x
 
--- the row at o of any octets; g for the rows that a row refers to, though neither refers to any
+-- the row at o of any octets; g for what rows that it refers to ask for, though it refers to none
 pub record OpenOctets (t : List ℕ) (o : ℕ) (g : ℕ → Items) : Type 0 where
-  -- in a table: known, as long, with no references and no branches; and in bounds where octets are and the most is not 0
+  -- in a table: known, and under each other rule as octets are, but that the most may not be 0
   pub known : knownKind (rowOf t o 8) ≡ true
   pub long : rowLength (rowOf t o 8) ≡ rowLength (rowOf t o 7)
   pub refers : references (rowOf t o 8) ≡ references (rowOf t o 7)
