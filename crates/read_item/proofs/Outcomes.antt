@@ -256,23 +256,25 @@ module _ (least most : ℕ) (b : List Bool) (p : ℕ) where
         pub length-worth : l ≤ n
         length-worth = rw (form .1) (length-spelt .worth)
 
-        pub length-long-form : n - l < leastOf c → lengthReading ≡ Bad (refusalAt badLength p)
-        length-long-form h = rw (length-spelt .then, lt-leb (leastOf c) (n - leadingWorth c) (rw (form .1) at h))
+        pub length-is : lengthReading ≡ boundedLength p (n - l) q (leastOf c) least most
+        length-is = rw (form .1) (go (leb (leastOf c) m) refl)
+          where
+            m : ℕ
+            m = n - leadingWorth c
 
-        pub length-is : leastOf c ≤ n - l → lengthReading ≡ boundedLength p (n - l) q least most
-        length-is h =
-            let m = n - leadingWorth c in
-            rw (form .1)
-            (tested (lengthWithin least most) b p (8 * suc c) (leb least m && leb m most) outsideLimits m
-            (rw (length-spelt .then, le-leb (leastOf c) m (rw (form .1) at h)))
-            (length-front .inside) (length-front .after))
+            go : (t : Bool) → leb (leastOf c) m ≡ t
+                → lengthReading ≡ cond t (cond (leb least m && leb m most) (Value (pos m) q) (Bad (refusalAt outsideLimits p))) (Bad (refusalAt badLength p))
+            go true h =
+                tested (lengthWithin least most) b p (8 * suc c) (leb least m && leb m most) outsideLimits m (rw (length-spelt .then, h)) (length-front .inside) (length-front .after)
+            go false h = rw (length-spelt .then, h)
 
-    pub length-one-octet : c ≡ 0 → lengthReading ≡ boundedLength p first next least most
+    pub length-one-octet : c ≡ 0 → lengthReading ≡ boundedLength p first next 0 least most
     unfolding leadingWorth
     length-one-octet z =
         let e' : frontOf b p (8 * suc c) ≡ Bits first next = rw z e in
         let n : first - leadingWorth c ≡ first = rw z (omega arith) in
-        rw n at (length-is (omega arith) (refl, refl, refl) e' (rw z (omega arith)))
+        let s : leastOf c ≡ 0 = rw z in
+        rw (n, s) at (length-is (omega arith) (refl, refl, refl) e')
 
 -- ── an index ──
 

@@ -10,7 +10,7 @@ use Rattle.bits.specs.Access.{placeAt}
 use Rattle.bits.specs.declared.BitPlace.{BitPlace}
 use Rattle.bits.specs.declared.Fetched.{Fetched}
 use Rattle.bits.specs.declared.Fetched.the-variants.{Bits, Short}
-use Rattle.answer.specs.Numbers.{outsideLimits, refusalAt}
+use Rattle.answer.specs.Numbers.{badLength, outsideLimits, refusalAt}
 use Rattle.item.specs.declared.Item.{Item}
 use Rattle.item.specs.declared.Item.the-variants.{Value, Bad}
 
@@ -18,6 +18,7 @@ use Rattle.item.specs.declared.Item.the-variants.{Value, Bad}
 abbrev pub frontOf : List Bool → ℕ → ℕ → Fetched
 frontOf b p k = cond (leb k (length b)) (Bits (numberOf (take k b)) (placeAt (p + k))) Short
 
--- a length at p in its own form, with the place after it
-abbrev pub boundedLength : ℕ → ℕ → BitPlace → ℕ → ℕ → Item
-boundedLength p n next least most = cond (leb least n && leb n most) (Value (pos n) next) (Bad (refusalAt outsideLimits p))
+-- a length at p, with the place after it, in a form whose shortest is given
+abbrev pub boundedLength : ℕ → ℕ → BitPlace → ℕ → ℕ → ℕ → Item
+boundedLength p n next shortest least most =
+    cond (leb shortest n) (cond (leb least n && leb n most) (Value (pos n) next) (Bad (refusalAt outsideLimits p))) (Bad (refusalAt badLength p))

@@ -107,15 +107,18 @@ pub fn variable(message: &[u8], place: BitPlace) -> Item
     Item::Value((form.base + (n - form.leading)) as i64, after)
 }
 
-// A length at a place that has its own form: whether it is within its row.
-fn bounded(place: BitPlace, n: u32, next: BitPlace, least: u32, most: u32) -> Item
-    ensures { λ r. ⌜ r ≡ boundedLength (place .0) n next least most ⌝ }
+// A length at a place, in a form whose shortest length is given: whether it is that long, and within its row.
+fn bounded(place: BitPlace, n: u32, next: BitPlace, shortest: u32, least: u32, most: u32) -> Item
+    ensures { λ r. ⌜ r ≡ boundedLength (place .0) n next shortest least most ⌝ }
 {
+    if n < shortest {
+        return Item::Bad(Refusal::new(Refusal::BAD_LENGTH, place.0)); // the long form of a short length
+    }
     if n < least {
-        return Item::Bad(Refusal::new(Refusal::OUTSIDE_LIMITS, place.0));
+        return Item::Bad(Refusal::new(Refusal::OUTSIDE_LIMITS, place.0)); // below its least
     }
     if most < n {
-        return Item::Bad(Refusal::new(Refusal::OUTSIDE_LIMITS, place.0));
+        return Item::Bad(Refusal::new(Refusal::OUTSIDE_LIMITS, place.0)); // above its most
     }
     Item::Value(n as i64, next)
 }
@@ -131,7 +134,7 @@ pub fn length(message: &[u8], place: BitPlace, least: u32, most: u32) -> Item
     };
     let ones = ones_of(first);
     if ones == 0 {
-        return bounded(place, first, next, least, most);
+        return bounded(place, first, next, 0, least, most);
     }
     if 1 < ones {
         return Item::Bad(Refusal::new(Refusal::BAD_LENGTH, place.0)); // its first two bits
@@ -141,10 +144,8 @@ pub fn length(message: &[u8], place: BitPlace, least: u32, most: u32) -> Item
     let Fetched::Bits(n, after) = g else {
         return Item::Bad(Refusal::new(Refusal::MESSAGE_ENDS, place.0)); // its second octet
     };
-    if n - form.leading < Form::TWO_OCTETS {
-        return Item::Bad(Refusal::new(Refusal::BAD_LENGTH, place.0)); // the long form of a short length
-    }
-    bounded(place, n - form.leading, after, least, most)
+    let length = n - form.leading;
+    bounded(place, length, after, Form::TWO_OCTETS, least, most)
 }
 
 // The index of a choice of m branches, whose references stand in a table from an offset on.

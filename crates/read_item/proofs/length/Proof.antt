@@ -8,8 +8,9 @@ use Prim.Native.Nat.{suc, _-_, _*_}
 use lib.ListN.{drop}
 use Rattle.bits.specs.Bits.{unpack}
 use Rattle.bits.specs.declared.Fetched.the-variants.{Short}
+use Rattle.item.specs.Code.{leastOf}
 use Rattle.read_item.specs.Steps.{frontOf}
-use Rattle.read_item.proofs.Outcomes.{front-Bits, length-short, length-starts-11, length-cut, length-worth, length-long-form, length-is, length-one-octet}
+use Rattle.read_item.proofs.Outcomes.{front-Bits, length-short, length-starts-11, length-cut, length-worth, length-is, length-one-octet}
 use Rattle.item.specs.declared.Item.the-variants.{Bad}
 use Rattle.read_item.proofs.length.Statement.{statement}
 use Rattle.read_item.proofs.length.Tie as tie
@@ -57,8 +58,8 @@ returns-4 d =
     let g : frontOf b p (8 * suc (s .ones-of .result)) ≡ Short = rw k at (sym (c .before .before .bits-at .ensures) ∙ c .enum-told2 .given .1) in
     ap Bad (d .new3 .ensures) ∙ sym (length-cut (a .least) (a .most) b p e (s .ones-of .result) (s .ones-of .ensures) (omega arith) g)
 
-sub-if3 : tie.Need-sub-if3
-sub-if3 c =
+sub-length : tie.Need-sub-length
+sub-length c =
     let g = c .before .before in
     let s = g .before .before .before .before .before .before in
     let a = s .before .before .before .before .before .before .args in
@@ -68,28 +69,17 @@ sub-if3 c =
     (sym (g .before .before .bits-at .ensures) ∙ g .g .given .1)
 
 returns-5 : tie.Need-returns-5
-returns-5 d =
-    let c = d .before in
+returns-5 c =
     let g = c .before .before .before in
     let s = g .before .before .before .before .before .before in
     let a = s .before .before .before .before .before .before .args in
     let p = a .place .0 in
     let e = sym (s .before .before .before .before .octet-at .ensures) ∙ s .before .before .f .given .1 in
     let one : s .ones-of .result ≡ 1 = omega (arith, g .before .before .before .before .before .if1 .left) in
-    ap Bad (d .new4 .ensures) ∙ sym (length-long-form (a .least) (a .most) (drop p (unpack (a .message .now))) p e (s .ones-of .result) (s .ones-of .ensures) (omega arith) (g .before .before .before .after-ones .ensures)
-    (sym (g .before .before .bits-at .ensures) ∙ g .g .given .1) (rw one (c .if3 .taken)))
-
-returns-6 : tie.Need-returns-6
-returns-6 c =
-    let g = c .before .before .before .before .before in
-    let s = g .before .before .before .before .before .before in
-    let a = s .before .before .before .before .before .before .args in
-    let p = a .place .0 in
-    let e = sym (s .before .before .before .before .octet-at .ensures) ∙ s .before .before .f .given .1 in
-    let one : s .ones-of .result ≡ 1 = omega (arith, g .before .before .before .before .before .if1 .left) in
-    c .bounded2 .ensures
-    ∙ sym (length-is (a .least) (a .most) (drop p (unpack (a .message .now))) p e (s .ones-of .result) (s .ones-of .ensures) (omega arith) (g .before .before .before .after-ones .ensures)
-    (sym (g .before .before .bits-at .ensures) ∙ g .g .given .1) (rw one (c .before .before .if3 .left)))
+    let short : leastOf (s .ones-of .result) ≡ 128 = rw one in
+    let is = length-is (a .least) (a .most) (drop p (unpack (a .message .now))) p e (s .ones-of .result) (s .ones-of .ensures) (omega arith) (g .before .before .before .after-ones .ensures)
+    (sym (g .before .before .bits-at .ensures) ∙ g .g .given .1) in
+    c .bounded2 .ensures ∙ sym (rw short at is)
 
 pub length-spec : {M : Type 1} → statement M
 length-spec =
@@ -111,9 +101,6 @@ length-spec =
     (λ c. search needs)
     (λ c κs. search needs)
     returns-4
-    sub-if3
+    sub-length
     (λ c κs. search needs)
-    returns-5
-    (λ c. search needs)
-    (λ c κs. search needs)
-    returns-6)
+    returns-5)
