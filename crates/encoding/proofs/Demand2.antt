@@ -15,13 +15,14 @@ use Rattle.row.specs.Rows.{Row, Number, Variable, FixedRun, CountedRun, Record,
 use Rattle.rules.specs.Rules.{All, Earlier, branches, references, Starts, Obeys}
 use Rattle.row.proofs.Offsets.{earlier-is, earlier-out}
 use Rattle.table.proofs.LastRow.{root-is, is-root}
+use Rattle.table.proofs.Obeyed.{branch-at}
 use Rattle.items.specs.Items.{stop, ask, times, encodingBits}
 use Rattle.encoding.specs.Rows.{presence, rowItems, items, asks}
 use Rattle.items.specs.Encoding.{size}
 use Rattle.items.specs.Reading.{accept}
 use Rattle.items.specs.Writing.{written}
 use Rattle.encoding.specs.Demand2.{Demand2}
-use Rattle.encoding.proofs.RowItems.{items-row, fields-earlier, branch-back}
+use Rattle.encoding.proofs.RowItems.{items-row, fields-earlier}
 use Rattle.items.proofs.Messages.{decode-sound}
 use Rattle.items.proofs.Written.{encode-complete, encode-sound}
 use Rattle.encoding.proofs.Demand3.{stands-decode, decode-stands, length-encoding, read-passed, write-passed}
@@ -50,7 +51,7 @@ module _ (t : List ℕ) (h : Obeys t) (o : ℕ) (s : Starts t o) where
   branch-same rs a i = go (getD (map there rs) i false) refl
     where
       go : (b : Bool) → getD (map there rs) i false ≡ b → earlier stop o (items t) (getD rs i 65535) ≡ items t (getD rs i 65535)
-      go true e = earlier-is stop o (items t) (getD rs i 65535) (branch-back rs i a e .1)
+      go true e = earlier-is stop o (items t) (getD rs i 65535) (branch-at (Earlier t o) rs i 65535 a e .1)
       go false e = rw (gone rs i e) (earlier-out stop o (items t) 65535 (omega (arith, h .most, s .1)) ∙ sym none-there)
 
   same : (r : Row) → All (Earlier t o) (references r) → rowItems (earlier stop o (items t)) r ≡ rowItems (items t) r

@@ -1,21 +1,21 @@
--- What each kind of row asks for, from the row at its offset; and the steps of its loops.
+-- What each kind of row asks for, from the row at its offset.
 -- Assumes nothing.
-use Prim.Native.Nat.{ℕ, zero, suc, _-_, _<_}
-use mathlib.Core.Bool.{Bool, true, false, cond, false≢true}
-use mathlib.Core.Path.{_≡_, refl, ap, ap₂, _∙_, subst, fun-ext}
+use Prim.Native.Nat.{ℕ, _+_, _<_}
+use mathlib.Core.Bool.{Bool, true, false}
+use mathlib.Core.Path.{_≡_, refl, ap, ap₂, _∙_, fun-ext}
 use mathlib.Core.List.{List, [], _∷_, map}
 use lib.IntN.{ℤ, pos}
 use lib.ListN.{getD}
-use Rattle.octets.specs.Numbers.{there}
-use Rattle.item.specs.Code.{number, variable, lengthWithin, index, natural}
+use Rattle.octets.specs.Numbers.{u16, there}
+use Rattle.item.specs.Code.{Code, number, variable, lengthWithin, index, natural}
 use Rattle.row.specs.Offsets.{earlier}
 use Rattle.row.specs.Rows.{Row, Number, Variable, FixedRun, CountedRun, Record, Choice, Octets, rowAt}
-use Rattle.rules.specs.Rules.{All, Earlier, branches}
+use Rattle.row.specs.Kinds.{isOctets, leastLength}
+use Rattle.rules.specs.Rules.{All, Earlier, Starts, Obeys}
+use Rattle.table.proofs.Obeyed.{octets-row}
 use Rattle.row.proofs.Offsets.{earlier-is, byOffset-is}
-use Rattle.items.specs.Items.{Items, stop, ask, _then_, one, times}
+use Rattle.items.specs.Items.{stop, ask, _then_, one, times}
 use Rattle.encoding.specs.Rows.{presence, fields, rowItems, items}
-use Rattle.items.specs.Walk.{walk, next}
-use Rattle.items.proofs.Walks.{walk-then}
 
 -- the equation by which a reader goes from row to row
 pub items-row : (t : List ℕ) (o : ℕ) → items t o ≡ rowItems (earlier stop o (items t)) (rowAt t o)
@@ -34,9 +34,13 @@ module _ (t : List ℕ) (o : ℕ) where
   unfolding rowItems
   items-variable e = items-is Variable e
 
-  pub items-octets : (least most : ℕ) → rowAt t o ≡ Octets least most → items t o ≡ ask (lengthWithin least most) (λ v. times (natural v) (one (number (pos 0) 255)))
-  unfolding rowItems
-  items-octets least most e = items-is (Octets least most) e
+  -- the length of a row of octets, of either kind
+  unfoldable pub octetsLength : Code
+  octetsLength = lengthWithin (leastLength (u16 t (o + 2))) (u16 t (o + 4))
+
+  pub items-octets : Obeys t → Starts t o → isOctets (u16 t (o + 2)) ≡ true → items t o ≡ ask octetsLength (λ v. times (natural v) (one (number (pos 0) 255)))
+  unfolding rowItems octetsLength
+  items-octets h s k = items-is (Octets (leastLength (u16 t (o + 2))) (u16 t (o + 4))) (octets-row h s k .0)
 
   pub items-fixed : (n r : ℕ) → rowAt t o ≡ FixedRun n r → r < o → items t o ≡ times n (items t r)
   unfolding rowItems
@@ -61,26 +65,3 @@ module _ (t : List ℕ) (o : ℕ) where
       → items t o ≡ ask (index (map there rs)) (λ v. earlier stop o (items t) (getD rs (natural v) 65535))
   unfolding rowItems
   items-choice rs e = items-is (Choice rs) e
-
--- a branch that exists is an earlier row
-pub branch-back : {t : List ℕ} {o : ℕ} (rs : List ℕ) (i : ℕ) → All (Earlier t o) (branches rs) → getD (map there rs) i false ≡ true → Earlier t o (getD rs i 65535)
-unfolding branches
-branch-back [] i h e = absurd (false≢true e)
-branch-back {t} {o} (r ∷ rs) zero h e =
-    let k : All (Earlier t o) (r ∷ branches rs) = subst (λ (b : Bool). All (Earlier t o) (cond b (r ∷ branches rs) (branches rs))) e h in
-    k .0
-branch-back {t} {o} (r ∷ rs) (suc i) h e = branch-back rs i (go (there r) h) e
-  where
-    go : (b : Bool) → All (Earlier t o) (cond b (r ∷ branches rs) (branches rs)) → All (Earlier t o) (branches rs)
-    go true k = k .1
-    go false k = k
-
--- the reader of a record's fields
-module _ (g : ℕ → Items) (r : ℕ) (rs : List ℕ) (ps : List Bool) (b : List Bool) (room at : ℕ) where
-  pub walk-present : walk (fields g (r ∷ rs) (true ∷ ps)) b room at ≡ next room (walk (g r) b room at) (walk (fields g rs ps) b)
-  unfolding fields
-  walk-present = walk-then (g r) (fields g rs ps) b room at
-
-  pub walk-absent : walk (fields g (r ∷ rs) (false ∷ ps)) b room at ≡ walk (fields g rs ps) b room at
-  unfolding fields
-  walk-absent = refl

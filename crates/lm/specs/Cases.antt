@@ -91,8 +91,12 @@ emptyCases =
 abbrev pub emptyElement : List ℤ
 emptyElement = pos 0 ∷ pos 1 ∷ pos 3 ∷ pos 1 ∷ pos 4 ∷ pos 0 ∷ pos 0 ∷ pos 0 ∷ pos 0 ∷ pos 0 ∷ []
 
--- the definitions give every case its outcome; and that list is not written, for the element's length
+-- the definitions give every case of a list its outcome
+abbrev pub Hold : List Case → Type 0
+Hold cs = map (λ (c : Case). outcome (c .asked)) cs ≡ map (λ (c : Case). c .gives) cs
+
+-- both lists hold; and the list of the empty element is not written, for its length
 pub record Given : Type 0 where
-  pub outcomes : map (λ (c : Case). outcome (c .asked)) cases ≡ map (λ (c : Case). c .gives) cases
-  pub emptyOutcomes : map (λ (c : Case). outcome (c .asked)) emptyCases ≡ map (λ (c : Case). c .gives) emptyCases
+  pub outcomes : Hold cases
+  pub emptyOutcomes : Hold emptyCases
   pub emptyUnwritten : writeLmOutcome emptyElement 1024 ≡ unwritten (refusalAt 12 5)

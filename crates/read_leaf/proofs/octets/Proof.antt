@@ -1,31 +1,24 @@
 -- `read_leaf::octets` meets its contract. A length, read and kept; then the octets.
 -- Assumes nothing.
-use Prim.Native.Nat.{_+_}
 use mathlib.Core.Path.{_≡_}
 use native.Mathlib.Omega.{arith}
 use borrow.Author.Needs.{needs}
 use denote.Ref.{now}
 use lib.IntN.{pos}
-use Rattle.octets.specs.Numbers.{u16}
-use Rattle.row.specs.Kinds.{leastLength}
-use Rattle.item.specs.Code.{Code, number, lengthWithin, natural}
+use Rattle.item.specs.Code.{number, lengthWithin, natural}
 use Rattle.table.proofs.Obeyed.{octets-row}
 use Rattle.items.specs.Items.{ask, one, times}
 use Rattle.encoding.specs.Rows.{items}
-use Rattle.encoding.proofs.RowItems.{items-octets}
+use Rattle.encoding.proofs.RowItems.{octetsLength, items-octets}
 use Rattle.read_steps.specs.Reads.{stateAt}
 use Rattle.read_steps.proofs.Keeping.{Keeping, keeping, first-refused, first-kept}
 use Rattle.read_leaf.proofs.octets.Statement.{statement}
 use Rattle.read_leaf.proofs.octets.Tie as tie
 
--- the length that the row asks for
-lengthCode : tie.Start → Code
-lengthCode s = let t = now (s .args .table) in let at = s .args .at in lengthWithin (leastLength (u16 t (at + 2))) (u16 t (at + 4))
-
 -- what the row asks for
-row-items : (s : tie.Start) → items (now (s .args .table)) (s .args .at) ≡ ask (lengthCode s) (λ v. times (natural v) (one (number (pos 0) 255)))
-unfolding lengthCode
-row-items s = items-octets (now (s .args .table)) (s .args .at) _ _ (octets-row (s .pre .0) (s .pre .1) (s .pre .2) .0)
+row-items : (s : tie.Start) → let t = now (s .args .table) in let at = s .args .at in
+    items t at ≡ ask (octetsLength t at) (λ v. times (natural v) (one (number (pos 0) 255)))
+row-items s = items-octets (now (s .args .table)) (s .args .at) (s .pre .0) (s .pre .1) (s .pre .2)
 
 kind-at-requires : tie.Need-kind-at-requires
 kind-at-requires c κs =
@@ -38,13 +31,14 @@ count-at-requires c κs =
     octets-row (s .pre .0) (s .pre .1) (s .pre .2) .1
 
 -- the code that is read, as the row has it
-length-asked : (c : tie.After-count-at) → lengthWithin (c .before .least-length .result) (c .count-at .result) ≡ lengthCode (c .before .before .before .before .before .before)
-unfolding lengthCode
+length-asked : (c : tie.After-count-at) → let a = c .before .before .before .before .before .before .args in
+    lengthWithin (c .before .least-length .result) (c .count-at .result) ≡ octetsLength (now (a .table)) (a .at)
+unfolding octetsLength
 length-asked c = rw (c .before .least-length .ensures, c .before .before .kind-at .ensures .0, c .count-at .ensures .0)
 
 -- the length, kept
 length-kept : (c : tie.After-kept) → let s = c .before .before .before .before .before .before .before .before .before .before in let a = s .args in
-    Keeping (lengthCode s) (now (a .message)) (a .room) (stateAt (a .cursor) (now (a .values)) (now (a .packed)))
+    Keeping (octetsLength (now (a .table)) (a .at)) (now (a .message)) (a .room) (stateAt (a .cursor) (now (a .values)) (now (a .packed)))
     (c .kept .last .1 .0) (c .kept .last .1 .1 .0) (c .before .before .before .length .result) (c .kept .result)
 length-kept c = keeping _ (length-asked (c .before .before .before .before)) (c .before .before .before .length .ensures) (c .kept .ensures)
 

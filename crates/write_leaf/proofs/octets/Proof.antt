@@ -1,6 +1,5 @@
 -- `write_leaf::octets` meets its contract. A length, put by its code, and then that many octets.
 -- Assumes nothing.
-use Prim.Native.Nat.{_+_}
 use mathlib.Core.Path.{_≡_}
 use native.Mathlib.Omega.{arith}
 use borrow.Author.Needs.{needs}
@@ -8,27 +7,21 @@ use denote.Ref.{now}
 use lib.IntN.{pos}
 use mir.Syntax.{w64}
 use mir.Val.{toZ, ofZ}
-use Rattle.octets.specs.Numbers.{u16}
-use Rattle.row.specs.Kinds.{leastLength}
-use Rattle.item.specs.Code.{Code, number, lengthWithin, natural}
+use Rattle.item.specs.Code.{number, lengthWithin, natural}
 use Rattle.table.proofs.Obeyed.{octets-row}
 use Rattle.items.specs.Items.{ask, one, times}
 use Rattle.encoding.specs.Rows.{items}
-use Rattle.encoding.proofs.RowItems.{items-octets}
+use Rattle.encoding.proofs.RowItems.{octetsLength, items-octets}
 use Rattle.item.proofs.Naturals.{held}
 use Rattle.write_steps.specs.Writes.{listIn, stateAt}
 use Rattle.write_steps.proofs.Putting.{Putting, putting, first-missing, first-refused, first-put}
 use Rattle.write_leaf.proofs.octets.Statement.{statement}
 use Rattle.write_leaf.proofs.octets.Tie as tie
 
--- the length that the row asks for
-lengthCode : tie.Start → Code
-lengthCode s = let t = now (s .args .table) in let at = s .args .at in lengthWithin (leastLength (u16 t (at + 2))) (u16 t (at + 4))
-
 -- what the row asks for
-row-items : (s : tie.Start) → items (now (s .args .table)) (s .args .at) ≡ ask (lengthCode s) (λ v. times (natural v) (one (number (pos 0) 255)))
-unfolding lengthCode
-row-items s = items-octets (now (s .args .table)) (s .args .at) _ _ (octets-row (s .pre .0) (s .pre .1) (s .pre .2) .0)
+row-items : (s : tie.Start) → let t = now (s .args .table) in let at = s .args .at in
+    items t at ≡ ask (octetsLength t at) (λ v. times (natural v) (one (number (pos 0) 255)))
+row-items s = items-octets (now (s .args .table)) (s .args .at) (s .pre .0) (s .pre .1) (s .pre .2)
 
 returns : tie.Need-returns
 returns c =
@@ -47,8 +40,9 @@ count-at-requires c κs =
     omega (arith, octets-row (s .pre .0) (s .pre .1) (s .pre .2) .1)
 
 -- the code that is written, as the row has it
-length-asked : (c : tie.After-count-at) → lengthWithin (c .before .least-length .result) (c .count-at .result) ≡ lengthCode (c .before .before .before .before .before .before .before .before .before .before)
-unfolding lengthCode
+length-asked : (c : tie.After-count-at) → let a = c .before .before .before .before .before .before .before .before .before .before .args in
+    lengthWithin (c .before .least-length .result) (c .count-at .result) ≡ octetsLength (now (a .table)) (a .at)
+unfolding octetsLength
 length-asked c = rw (c .before .least-length .ensures, c .before .before .kind-at .ensures .0, c .count-at .ensures .0)
 
 -- the length as the code holds it
@@ -59,7 +53,7 @@ value-held c = held (c .before .given .given .0 .0) (c .known-told .given .0 .1)
 value-put : (c : tie.After-moved)
     → let told = c .before .before .before .before .before .before .before .before in
     let s = told .before .before .before .before .before .before .before in let a = s .args in
-    Putting (lengthCode s) (listIn (now (a .values)) (now (a .packed))) (stateAt (a .cursor) (now (a .output)))
+    Putting (octetsLength (now (a .table)) (a .at)) (listIn (now (a .values)) (now (a .packed))) (stateAt (a .cursor) (now (a .output)))
     (c .before .before .before .length .last .0) (told .before .given .given .0 .0) (c .moved .result)
 value-put c =
     let put = c .before .before .before .length in
