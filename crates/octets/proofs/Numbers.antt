@@ -1,5 +1,5 @@
 -- Laws of the numbers that stand in octets: how large each can be, and what a row of them holds.
-use Prim.Native.Nat.{ℕ, zero, suc, _+_, _-_, _*_, _≤_, _<_}
+use Prim.Native.Nat.{ℕ, zero, suc, _+_, _-_, _*_, _%_, _≤_, _<_}
 use mathlib.Core.Bool.{Bool, true, false, cond}
 use mathlib.Core.Path.{_≡_, refl, ap, _∙_}
 use mathlib.Core.List.{List}
@@ -8,7 +8,9 @@ use lib.Dec.{ltb}
 use lib.IntN.{pos, negsuc, _-ℤ_}
 use lib.ListN.{length, getD}
 use lib.Signed.{mag}
-use borrow.Author.Tests.{ltb-true, ltb-false, lt-ltb}
+use mir.Syntax.{w64}
+use mir.Val.{SFits}
+use borrow.Author.Tests.{ltb-true, ltb-false, lt-ltb, le-ltb}
 use Rattle.octets.specs.Numbers.{u16, u32, u16s, signed}
 
 module _ (t : List ℕ) (octets : (i : ℕ) → getD t i 0 < 256) where
@@ -49,8 +51,28 @@ mag-signed n h =
     (λ e. omega (arith, ltb-true n 2147483648 e))
     (λ e. omega (arith, ltb-false n 2147483648 e))
 
--- the upper half of 32 bits less 2 ^ 32
-pub upper-half : (n : ℕ) → n < 4294967296 → pos n -ℤ pos 4294967296 ≡ negsuc (4294967295 - n)
-upper-half n h =
-    let e : 4294967296 - suc n ≡ 4294967295 - n = omega arith in
-    rw (lt-ltb n 4294967296 h) (ap negsuc e)
+-- a number of 32 bits, half of the range further on and around its end, and back
+pub turned : (n : ℕ) → n < 4294967296 → pos ((n + 2147483648) % 4294967296) -ℤ pos 2147483648 ≡ signed n
+unfolding signed
+turned n h = go (ltb n 2147483648) refl
+  where
+    go : (b : Bool) → ltb n 2147483648 ≡ b → pos ((n + 2147483648) % 4294967296) -ℤ pos 2147483648 ≡ cond b (pos n) (negsuc (4294967295 - n))
+    go true e =
+        let less = ltb-true n 2147483648 e in
+        let m : (n + 2147483648) % 4294967296 ≡ n + 2147483648 = omega arith in
+        let d : n + 2147483648 - 2147483648 ≡ n = omega arith in
+        rw (m, le-ltb (n + 2147483648) 2147483648 (omega arith)) (ap pos d)
+    go false e =
+        let more = ltb-false n 2147483648 e in
+        let m : (n + 2147483648) % 4294967296 ≡ n - 2147483648 = omega arith in
+        let d : 2147483648 - suc (n - 2147483648) ≡ 4294967295 - n = omega arith in
+        rw (m, lt-ltb (n - 2147483648) 2147483648 (omega arith)) (ap negsuc d)
+
+-- it fits 64 bits
+pub signed-fits : (n : ℕ) → n < 4294967296 → SFits w64 (signed n)
+unfolding signed
+signed-fits n h = go (ltb n 2147483648) refl
+  where
+    go : (b : Bool) → ltb n 2147483648 ≡ b → SFits w64 (cond b (pos n) (negsuc (4294967295 - n)))
+    go true e = record { sfits = omega (arith, ltb-true n 2147483648 e) }
+    go false e = record { sfits = omega (arith, ltb-false n 2147483648 e) }

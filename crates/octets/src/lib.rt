@@ -30,14 +30,11 @@ pub fn u32_at(s: &[u8], at: usize) -> usize
     low + 65536 * high
 }
 
-// A number of 32 bits read as signed.
+// A number of 32 bits read as signed: half of the range further on, around its end, and back. With no branch, the compiler reads
+// four octets as one signed number.
 pub fn signed_of(n: usize) -> i64
     requires { ⌜ n < 4294967296 ⌝ }
     ensures { λ r. ⌜ r ≡ signed n ⌝ }
 {
-    if n < 2147483648 {
-        n as i64
-    } else {
-        n as i64 - 4294967296
-    }
+    ((n + 2147483648) % 4294967296) as i64 - 2147483648
 }
