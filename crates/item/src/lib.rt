@@ -87,7 +87,7 @@ pub const RESERVED: usize = 65535;
 
 // Whether a choice of m branches, whose references stand in a table from an offset on, has a branch that is not reserved.
 pub fn has_branch(table: &[u8], from: usize, m: usize, i: usize) -> bool
-    requires { ⌜ (from + 2 * m ≤ length (now table)) × (length (now table) ≤ 65535) ⌝ }
+    requires { ⌜ from + 2 * m ≤ length (now table) ⌝ }
     ensures { λ r. ⌜ r ≡ getD (branchesAt (now (table .entry)) from m) i false ⌝ }
 {
     if m <= i {

@@ -150,7 +150,7 @@ pub fn length(message: &[u8], place: BitPlace, least: u32, most: u32) -> Item
 
 // The index of a choice of m branches, whose references stand in a table from an offset on.
 pub fn index(message: &[u8], place: BitPlace, table: &[u8], from: usize, m: usize) -> Item
-    requires { ⌜ (length (now message) ≤ mostOctets) × (1 ≤ m) × (m ≤ 128) × (from + 2 * m ≤ length (now table)) × (length (now table) ≤ 65535) ⌝ }
+    requires { ⌜ (length (now message) ≤ mostOctets) × (1 ≤ m) × (m ≤ 128) × (from + 2 * m ≤ length (now table)) ⌝ }
     ensures { λ r. ⌜ r ≡ itemAt (Code.index (branchesAt (now (table .entry)) from m)) (now (message .entry)) (place .0) ⌝ }
 {
     let f = bits_at(message, place, item::width((m - 1) as u32));

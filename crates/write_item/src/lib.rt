@@ -123,7 +123,7 @@ pub fn index(
     m: usize,
     value: i64,
 ) -> Put
-    requires { ⌜ (length (now output) ≤ mostOctets) × (1 ≤ m) × (m ≤ 128) × (from + 2 * m ≤ length (now table)) × (length (now table) ≤ 65535) ⌝ }
+    requires { ⌜ (length (now output) ≤ mostOctets) × (1 ≤ m) × (m ≤ 128) × (from + 2 * m ≤ length (now table)) ⌝ }
     ensures { λ r. ⌜ (r ≡ putAt (Code.index (branchesAt (now (table .entry)) from m)) (now (output .entry)) (place .0) value) × (unpack (now (output .exit)) ≡ bitsAfter (Code.index (branchesAt (now (table .entry)) from m)) (unpack (now (output .entry))) (place .0) value) ⌝ }
 {
     let last = (m - 1) as u32;
