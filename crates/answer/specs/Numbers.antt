@@ -68,6 +68,10 @@ onlyReserved = 25
 abbrev pub tooDeep : ℕ
 tooDeep = 26
 
+-- of a state that holds no table (document 02, ticket 3)
+abbrev pub noTable : ℕ
+noTable = 27
+
 -- an outcome as document 01 tells it: a refusal's number, 0 where it is accepted; its place; the values, bits and octets counted
 pub record Outcome : Type 0 where
   pub number : ℕ

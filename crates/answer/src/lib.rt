@@ -69,6 +69,9 @@ impl Refusal {
     // It is deeper than 32.
     pub const TOO_DEEP: u32 = 26;
 
+    // No table is loaded (document 02, ticket 3).
+    pub const NO_TABLE: u32 = 27;
+
     // A refusal of a number at a place. No other function makes one.
     pub fn new(number: u32, place: usize) -> Refusal
         ensures { λ r. ⌜ r ≡ refusalAt number place ⌝ }

@@ -1,3 +1,4 @@
 pub mod Bools
 pub mod Offsets
 pub mod ByKind
+pub mod Fits

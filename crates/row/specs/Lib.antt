@@ -1,3 +1,4 @@
 pub mod Offsets
 pub mod Rows
 pub mod Kinds
+pub mod Fits

@@ -76,10 +76,10 @@ depth-pos : (t : List ℕ) (o : ℕ) → depth t o ≢ 0
 depth-pos t o h = omega (arith, depth-row t o)
 
 -- d after the rows before o
-record Passed (t : List ℕ) (o : ℕ) (d : List ℕ) : Type 0 where
-  sized : length d ≡ 4096
-  known : (r : ℕ) → Reach t 0 r → r < o → depthIn d r ≡ depth t r
-  only : (r : ℕ) → depthIn d r ≢ 0 → Earlier t o r
+pub record Passed (t : List ℕ) (o : ℕ) (d : List ℕ) : Type 0 where
+  pub sized : length d ≡ 4096
+  pub known : (r : ℕ) → Reach t 0 r → r < o → depthIn d r ≡ depth t r
+  pub only : (r : ℕ) → depthIn d r ≢ 0 → Earlier t o r
 
 not-eqb : (n : ℕ) → not (eqb n 0) ≡ true → n ≢ 0
 not-eqb n h e = false≢true (rw (eq-eqb n 0 e) at h)
@@ -106,7 +106,7 @@ module _ {t : List ℕ} {o : ℕ} {d : List ℕ} (i : Passed t o d) where
   all-complete (r ∷ rs) h =
       and-true _ _ (eqb-not (depthIn d r) (λ e. depth-pos t r (sym (i .known r (h .0 .0) (h .0 .1)) ∙ e))) (all-complete rs (h .1))
 
-  row-depth : All (Earlier t o) (references (rowAt t o)) → rowDepth t o d ≡ depth t o
+  pub row-depth : All (Earlier t o) (references (rowAt t o)) → rowDepth t o d ≡ depth t o
   unfolding rowDepth
   row-depth h = ap suc (all-same (references (rowAt t o)) h) ∙ sym (depth-row t o)
 
@@ -165,11 +165,11 @@ module _ {t : List ℕ} {o : ℕ} {d : List ℕ} (i : Passed t o d) where
       step _ itsDepth sound (deep-keeps s) (deep-test s) (λ _ q l. absurd (omega (arith, part-within q .1)))))))))
 
   -- a row that passes keeps the rule for every part
-  row-sound : rowVerdict t o d ≡ sound → (q : Part) → Keeps t o q
+  pub row-sound : rowVerdict t o d ≡ sound → (q : Part) → Keeps t o q
   row-sound e q = subst (λ (v : RowVerdict). From 20 v) e row-from q (part-within q .0)
 
   -- and one that doesn't breaks that for a part, and keeps those before it
-  row-faulty : (part : Part) → rowVerdict t o d ≡ faulty part → ((q : Part) → partNumber q < partNumber part → Keeps t o q) × (Keeps t o part → ⊥)
+  pub row-faulty : (part : Part) → rowVerdict t o d ≡ faulty part → ((q : Part) → partNumber q < partNumber part → Keeps t o q) × (Keeps t o part → ⊥)
   row-faulty part e =
       let f = subst (λ (v : RowVerdict). From 20 v) e row-from in
       (λ q. f .0 q (part-within q .0), f .1)
@@ -199,7 +199,7 @@ module _ {t : List ℕ} {o : ℕ} {d : List ℕ} (i : Passed t o d) where
     passed-on : Passed t (o + u16 t o) (set d o (rowDepth t o d))
     passed-on = record { sized = length-set d o (rowDepth t o d) ∙ i .sized; known = known-on; only = only-on }
 
-pub length-four : (r : Row) → knownKind r ≡ true → 4 ≤ rowLength r
+length-four : (r : Row) → knownKind r ≡ true → 4 ≤ rowLength r
 unfolding knownKind rowLength
 length-four (Number low span) h = omega arith
 length-four Variable h = omega arith
@@ -215,7 +215,7 @@ pub row-four : {t : List ℕ} {o : ℕ} → RowObeys t o → 4 ≤ u16 t o
 row-four {t} {o} h = omega (arith, h .lengthRight, length-four (rowAt t o) (h .kindKnown))
 
 -- a row that keeps the rule for every part
-all-obeys : {t : List ℕ} {o : ℕ} → ((q : Part) → Keeps t o q) → RowObeys t o
+pub all-obeys : {t : List ℕ} {o : ℕ} → ((q : Part) → Keeps t o q) → RowObeys t o
 all-obeys k = record {
   kindKnown = k itsKind;
   lengthRight = k itsLength;
@@ -244,7 +244,7 @@ pub ahead : {t : List ℕ} {o p : ℕ} → Reach t o p → o < p → (o < length
 ahead here h = absurd (omega arith)
 ahead (on l r) h = (l, r)
 
-module _ (t : List ℕ) (small : length t ≤ 4096) where
+module _ (t : List ℕ) where
   -- the rows before o keep the rules
   abbrev So-far : ℕ → Type 0
   So-far o = (p : ℕ) → Starts t p → p < o → (q : Part) → Keeps t p q
@@ -266,14 +266,14 @@ module _ (t : List ℕ) (small : length t ≤ 4096) where
   found-on o (broken r) l w x = x
 
   -- where all is well up to o
-  record Ready (o : ℕ) (d : List ℕ) : Type 0 where
-    depths : Passed t o d
-    reached : Reach t 0 o
-    inside : o ≤ length t
-    rows : So-far o
+  pub record Ready (o : ℕ) (d : List ℕ) : Type 0 where
+    pub depths : Passed t o d
+    pub reached : Reach t 0 o
+    pub inside : o ≤ length t
+    pub rows : So-far o
 
-  ready-on : (o : ℕ) (d : List ℕ) → Ready o d → o < length t → ((q : Part) → Keeps t o q) → Ready (o + u16 t o) (set d o (rowDepth t o d))
-  ready-on o d y l k =
+  pub ready-on : length t ≤ 4096 → (o : ℕ) (d : List ℕ) → Ready o d → o < length t → ((q : Part) → Keeps t o q) → Ready (o + u16 t o) (set d o (rowDepth t o d))
+  ready-on small o d y l k =
       let w = all-obeys k in
       let u = row-four w in
       record {
@@ -287,9 +287,9 @@ module _ (t : List ℕ) (small : length t ≤ 4096) where
   abbrev later : ℕ → ℕ → List ℕ → Verdict
   later f o d = scan f t (o + u16 t o) (set d o (rowDepth t o d))
 
-  scan-finds : (f o : ℕ) (d : List ℕ) → Ready o d → length t < o + f → Found o (scan f t o d)
-  scan-finds zero o d y h = absurd (omega (arith, y .inside))
-  scan-finds (suc f) o d y h = go (ℕ-discrete o (length t)) (scan-finds f (o + u16 t o) (set d o (rowDepth t o d)))
+  scan-finds : length t ≤ 4096 → (f o : ℕ) (d : List ℕ) → Ready o d → length t < o + f → Found o (scan f t o d)
+  scan-finds small zero o d y h = absurd (omega (arith, y .inside))
+  scan-finds small (suc f) o d y h = go (ℕ-discrete o (length t)) (scan-finds small f (o + u16 t o) (set d o (rowDepth t o d)))
     where
       tested : o < length t → (v : RowVerdict) → rowVerdict t o d ≡ v
           → (Ready (o + u16 t o) (set d o (rowDepth t o d)) → length t < o + u16 t o + f → Found (o + u16 t o) (later f o d))
@@ -301,7 +301,7 @@ module _ (t : List ℕ) (small : length t ≤ 4096) where
           let k = row-sound (y .depths) e in
           let w = all-obeys k in
           let u = row-four w in
-          found-on o (later f o d) l w (ih (ready-on o d y l k) (omega arith))
+          found-on o (later f o d) l w (ih (ready-on small o d y l k) (omega arith))
 
       go : Dec (o ≡ length t)
           → (Ready (o + u16 t o) (set d o (rowDepth t o d)) → length t < o + u16 t o + f → Found (o + u16 t o) (later f o d))
@@ -314,11 +314,13 @@ getD-zeros zero r = refl
 getD-zeros (suc n) zero = refl
 getD-zeros (suc n) (suc r) = getD-zeros n r
 
-start : (t : List ℕ) (n : ℕ) → n ≡ 4096 → Passed t 0 (replicate n 0)
+-- before the first row
+pub start : (t : List ℕ) (n : ℕ) → n ≡ 4096 → Ready t 0 (replicate n 0)
 start t n e = record {
-  sized = length-replicate n 0 ∙ e;
-  known = λ r q h. absurd (omega arith);
-  only = λ r h. absurd (h (getD-zeros n r));
+  depths = record { sized = length-replicate n 0 ∙ e; known = λ r q h. absurd (omega arith); only = λ r h. absurd (h (getD-zeros n r)) };
+  reached = here;
+  inside = omega arith;
+  rows = λ p s l. absurd (omega arith);
 }
 
 -- ── the verdict ──
@@ -332,7 +334,7 @@ says : (t : List ℕ) → Says t (verdict t)
 unfolding verdict
 says t = go (leb 4 (length t)) refl (leb (length t) 4096) refl
   where
-    found : (least : 4 ≤ length t) (most : length t ≤ 4096) (v : Verdict) → Found t most 0 v → Says t v
+    found : (least : 4 ≤ length t) (most : length t ≤ 4096) (v : Verdict) → Found t 0 v → Says t v
     found least most passed s = record { least = least; most = most; filled = s .filled; rows = λ o p. s .rows o (p .0) (p .1) }
     found least most (broken r) x = rw (x .3) (inRow least most (x .2))
 
@@ -343,13 +345,12 @@ says t = go (leb 4 (length t)) refl (leb (length t) 4096) refl
     go true ea true eb =
         let most = leb-true (length t) 4096 eb in
         found (leb-true 4 (length t) ea) most (scan (suc (length t)) t 0 (replicate 4096 0))
-        (scan-finds t most (suc (length t)) 0 (replicate 4096 0)
-        (record { depths = start t 4096 refl; reached = here; inside = omega arith; rows = λ p s l. absurd (omega arith) }) (omega arith))
+        (scan-finds t most (suc (length t)) 0 (replicate 4096 0) (start t 4096 refl) (omega arith))
 
 -- ── one fault, or none ──
 
 -- every row of a table that obeys the rules keeps the rule for every part
-keeps-all : (t : List ℕ) (o : ℕ) → Obeys t → Starts t o → (q : Part) → Keeps t o q
+pub keeps-all : (t : List ℕ) (o : ℕ) → Obeys t → Starts t o → (q : Part) → Keeps t o q
 keeps-all t o h s = go
   where
     w : RowObeys t o

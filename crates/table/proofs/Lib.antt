@@ -4,3 +4,5 @@ pub mod Cases
 pub mod Obeyed
 pub mod LastRow
 pub mod Walk
+pub mod Found
+pub mod Summary

@@ -1,24 +1,22 @@
--- The check's loop over the rows: the scan of Verdict.antt, a row at a time.
+-- The walk over a table's rows, a row at a time: what is known at an offset, of the rows before it and of those that are left.
 -- Assumes nothing.
-use Prim.Native.Nat.{ℕ, zero, suc, _+_, _*_, _/_, _%_, _≤_, _<_}
-use mathlib.Core.Bool.{Bool, true, false, _&&_, and-eq-true-iff}
-use mathlib.Core.Path.{_≡_, refl, sym, ap, ap₂, _∙_}
+use Prim.Native.Nat.{ℕ, zero, suc, _+_, _/_, _%_, _≤_, _<_}
+use mathlib.Core.Path.{_≡_, refl, sym, ap, _∙_, subst}
+use mathlib.Core.Logic.{_≢_}
 use mathlib.Core.List.{List}
 use native.Mathlib.Omega.{arith}
-use lib.Dec.{leb, eqb}
-use lib.ListN.{length, set, replicate}
-use borrow.Author.Tests.{leb-true, eqb-true, le-leb, lt-leb, eq-eqb, ne-eqb}
+use lib.ListN.{length, set, replicate, length-set, length-replicate}
+use borrow.Author.Tests.{le-leb, lt-leb}
 use Rattle.octets.specs.Numbers.{u16}
-use Rattle.answer.specs.Numbers.{refusalAt, accepted, refused}
-use Rattle.row.specs.Rows.{rowAt, rowLength}
-use Rattle.rules.specs.Rules.{knownKind, Part, itsEnd, itsKind, itsLength, partNumber}
-use Rattle.rules.specs.Tests.{RowVerdict, sound, faulty, demand, rowVerdict, rowDepth}
-use Rattle.table.specs.Verdict.{passed, broken, onSound, scan, verdict, checked}
+use Rattle.row.specs.Rows.{rowAt}
+use Rattle.rules.specs.Rules.{Starts, Part, itsEnd, itsLength, itsReferences, partNumber, Keeps, Obeys, depth}
+use Rattle.rules.specs.Tests.{RowVerdict, sound, faulty, rowVerdict, rowDepth}
 use Rattle.rules.specs.Steps.{spread, toldAs, rowTested}
 use Rattle.rules.specs.declared.RowTest.the-variants.{Sound, Broken}
-use Rattle.row.proofs.Bools.{and-false}
-use Rattle.table.proofs.Decides.{length-four}
+use Rattle.table.specs.Faults.{FirstBroken, Fault, inRow}
+use Rattle.table.specs.Summary.{rowsFrom, rowCount, depthsFrom, depthsOf}
 use Rattle.rules.proofs.Halves.{length-even, spread-set, spread-zeros}
+use Rattle.table.proofs.Decides.{Ready, start, ready-on, row-depth, row-sound, row-faulty, row-four, all-obeys}
 
 -- ── one row ──
 
@@ -45,83 +43,117 @@ broken-fails t o d n e = go (rowVerdict t o d) refl e
     go sound h e = absurd (let z : _≡_ {A = ℕ} 0 1 = cc in omega arith)
     go (faulty part) h e = (part, h, cc)
 
-demand-inv : (b : Bool) (part : Part) (v : RowVerdict) → demand b part v ≡ sound → (b ≡ true) × (v ≡ sound)
-demand-inv true part v e = (refl, e)
-demand-inv false part v e = (cc, cc)
+-- ── the rows so far, and those that are left ──
 
--- a row that passes ends inside the table, and has four octets at least and an even number of them
-pub row-moves : (t : List ℕ) (o : ℕ) (d : List ℕ) (l x : ℕ) → rowTested t o d ≡ Sound l x → (o + l ≤ length t) × (4 ≤ l) × (l % 2 ≡ 0)
-unfolding rowVerdict
-row-moves t o d l x e =
-    let p = sound-passes t o d l x e in
-    let a = demand-inv (leb (o + 4) (length t) && leb (o + u16 t o) (length t)) itsEnd _ (p .test) in
-    let b = and-eq-true-iff (leb (o + 4) (length t)) _ .0 (a .0) in
-    let k = demand-inv (knownKind (rowAt t o)) itsKind _ (a .1) in
-    let w = demand-inv (eqb (u16 t o) (rowLength (rowAt t o))) itsLength _ (k .1) in
-    let i = leb-true (o + u16 t o) (length t) (b .1) in
-    let s = eqb-true (u16 t o) (rowLength (rowAt t o)) (w .0) in
-    let f = length-four (rowAt t o) (k .0) in
-    let v = length-even (rowAt t o) in
-    (omega (arith, p .length-is), omega (arith, p .length-is), omega (arith, p .length-is))
+-- at o, behind so many rows, of which this is the last: h has their depths at half their offsets
+pub record Walked (t : List ℕ) (o : ℕ) (h : List ℕ) (rows last : ℕ) : Type 0 where
+  pub ready : Ready t o (spread h)
+  pub even : o % 2 ≡ 0
+  pub sized : length h ≡ 2048
+  pub few : rows ≤ o
+  pub last-row : o ≢ 0 → Starts t last × (last + u16 t last ≡ o)
+  -- the rows from o on, with those so far, are all; there are no more of them than this
+  pub more : ℕ
+  pub enough : length t ≤ o + more
+  pub counted : rows + rowsFrom more t o ≡ rowCount t
+  pub kept : depthsFrom more t o h ≡ depthsOf t
 
--- ── the rows that are left ──
+pub walk-begins : (t : List ℕ) (h : List ℕ) → h ≡ replicate 2048 0 → Walked t 0 h 0 0
+unfolding rowCount depthsOf
+walk-begins t h e = record {
+  ready = subst (λ (d : List ℕ). Ready t 0 d) (sym (ap spread e ∙ spread-zeros 2048)) (start t 4096 refl);
+  even = refl;
+  sized = ap length e ∙ length-replicate {A = ℕ} 2048 0;
+  few = omega arith;
+  last-row = λ n. absurd (n refl);
+  more = length t;
+  enough = omega arith;
+  counted = omega arith;
+  kept = ap (depthsFrom (length t) t 0) e;
+}
 
--- the scan from the start is the scan from o on, which has rows enough; o is even, and h has the depths at half the offsets
-abbrev pub Left : List ℕ → List ℕ → ℕ → List ℕ → Type 0
-Left t d₀ o h = (g : ℕ) × (length t < o + suc g) × (scan (suc (length t)) t 0 d₀ ≡ scan (suc g) t o (spread h)) × (o % 2 ≡ 0)
+-- behind a row at o of a length and a depth
+pub record WalkedOn (t : List ℕ) (o : ℕ) (h : List ℕ) (rows l x : ℕ) : Type 0 where
+  pub ends : o + l ≤ length t
+  pub four : 4 ≤ l
+  pub walked : Walked t (o + l) (set h (o / 2) x) (rows + 1) o
 
-pub left-begins : (t : List ℕ) (n : ℕ) → Left t (replicate (2 * n) 0) 0 (replicate n 0)
-left-begins t n = (length t, omega arith, ap (scan (suc (length t)) t 0) (sym (spread-zeros n)), refl)
+module _ {t : List ℕ} {o : ℕ} {h : List ℕ} {rows last : ℕ} (w : Walked t o h rows last) (inside : o < length t) (most : length t ≤ 4096) where
+  fuel : (g : ℕ) → length t ≤ o + g → (k : ℕ) × (g ≡ suc k)
+  fuel zero h = absurd (omega arith)
+  fuel (suc k) h = (k, refl)
 
-module _ (t d₀ : List ℕ) (o : ℕ) (h : List ℕ) (left : Left t d₀ o h) where
-  abbrev d : List ℕ
-  d = spread h
+  rows-on : (g k : ℕ) → g ≡ suc k → rowsFrom g t o ≡ suc (rowsFrom k t (o + u16 t o))
+  unfolding rowsFrom
+  rows-on g k e = rw (e, lt-leb (length t) o inside)
 
-  pub left-ends : length t ≡ o → scan (suc (length t)) t 0 d₀ ≡ passed
-  left-ends e = left .2 ∙ rw (eq-eqb o (length t) (sym e))
+  depths-on : (g k : ℕ) → g ≡ suc k → depthsFrom g t o h ≡ depthsFrom k t (o + u16 t o) (set h (o / 2) (depth t o))
+  unfolding depthsFrom
+  depths-on g k e = rw (e, lt-leb (length t) o inside)
 
-  module _ (inside : o < length t) where
-    scan-row : (g : ℕ) → scan (suc g) t o d ≡ onSound (rowVerdict t o d) o (scan g t (o + u16 t o) (set d o (rowDepth t o d)))
-    scan-row g = rw (ne-eqb o (length t) (λ e. omega arith))
+  -- over a row that keeps the rules
+  pub walk-on : ((q : Part) → Keeps t o q) → Walked t (o + u16 t o) (set h (o / 2) (rowDepth t o (spread h))) (rows + 1) o
+  walk-on k =
+      let d = rowDepth t o (spread h) in
+      let m = fuel (w .more) (w .enough) in
+      let four = row-four (all-obeys k) in
+      record {
+        ready = subst (λ (d : List ℕ). Ready t (o + u16 t o) d) (sym (spread-set h o d (w .even))) (ready-on t most o (spread h) (w .ready) inside k);
+        even = omega (arith, w .even, k itsLength, length-even (rowAt t o));
+        sized = length-set h (o / 2) d ∙ w .sized;
+        few = omega (arith, w .few);
+        last-row = λ n. ((w .ready .reached, inside), refl);
+        more = m .0;
+        enough = omega (arith, w .enough, m .1);
+        counted = omega (arith, w .counted, rows-on (w .more) (m .0) (m .1));
+        kept =
+            ap (λ x. depthsFrom (m .0) t (o + u16 t o) (set h (o / 2) x)) (row-depth (w .ready .depths) (k itsReferences))
+            ∙ sym (depths-on (w .more) (m .0) (m .1))
+            ∙ w .kept;
+      }
 
-    pub left-broken : (n : ℕ) → rowTested t o d ≡ Broken n → scan (suc (length t)) t 0 d₀ ≡ broken (refusalAt n o)
-    left-broken n e = let f = broken-fails t o d n e in left .2 ∙ scan-row (left .0) ∙ rw (f .1, f .2)
+  -- over one that the test passes
+  pub row-passed : (l x : ℕ) → rowTested t o (spread h) ≡ Sound l x → WalkedOn t o h rows l x
+  row-passed l x e =
+      let p = sound-passes t o (spread h) l x e in
+      let k = row-sound (w .ready .depths) (p .test) in
+      record {
+        ends = omega (arith, k itsEnd .1, p .length-is);
+        four = omega (arith, row-four (all-obeys k), p .length-is);
+        walked = rw (p .length-is, p .depth-is) (walk-on k);
+      }
 
-    more : (g : ℕ) → length t < o + suc g → (k : ℕ) × (g ≡ suc k)
-    more zero h = absurd (omega arith)
-    more (suc k) h = (k, refl)
+  -- one that it refuses
+  pub row-refused : 4 ≤ length t → (n : ℕ) → rowTested t o (spread h) ≡ Broken n → Fault t n o
+  row-refused least n e =
+      let f = broken-fails t o (spread h) n e in
+      let x = row-faulty (w .ready .depths) (f .0) (f .1) in
+      let first : FirstBroken t o (f .0) = record { starts = (w .ready .reached, inside); rowsBefore = w .ready .rows; partsBefore = x .0; breaks = x .1 } in
+      rw (← f .2) (inRow least most first)
 
-    pub left-on : (l x : ℕ) → rowTested t o d ≡ Sound l x → Left t d₀ (o + l) (set h (o / 2) x)
-    left-on l x e =
-        let p = sound-passes t o d l x e in
-        let m = more (left .0) (left .1) in
-        let f = row-moves t o d l x e in (
-          m .0,
-          omega (arith, left .1, m .1, f .1),
-          left .2
-              ∙ scan-row (left .0)
-              ∙ rw (p .test, ← p .length-is, ← p .depth-is) (ap₂ (λ n d. scan n t (o + l) d) (m .1) (sym (spread-set h o x (left .3)))),
-          omega (arith, left .3, f .2),
-        )
+-- ── the end ──
 
--- ── the verdict ──
+module _ {t h : List ℕ} {rows last : ℕ} (w : Walked t (length t) h rows last) where
+  no-rows : (g : ℕ) → rowsFrom g t (length t) ≡ 0
+  unfolding rowsFrom
+  no-rows zero = refl
+  no-rows (suc g) = rw (le-leb (length t) (length t) (omega arith))
 
-module _ (t : List ℕ) where
-  pub small-broken : length t < 4 → refused 1 0 ≡ checked (verdict t)
-  unfolding verdict
-  small-broken h = rw (lt-leb 4 (length t) h)
+  no-depths : (g : ℕ) → depthsFrom g t (length t) h ≡ h
+  unfolding depthsFrom
+  no-depths zero = refl
+  no-depths (suc g) = rw (le-leb (length t) (length t) (omega arith))
 
-  pub large-broken : 4096 < length t → refused 1 0 ≡ checked (verdict t)
-  unfolding verdict
-  large-broken h = rw (lt-leb (length t) 4096 h, and-false (leb 4 (length t)))
+  pub all-counted : rows ≡ rowCount t
+  all-counted = omega (arith, w .counted, no-rows (w .more))
 
-  module _ (least : 4 ≤ length t) (most : length t ≤ 4096) where
-    sized : verdict t ≡ scan (suc (length t)) t 0 (replicate 4096 0)
-    unfolding verdict
-    sized = rw (le-leb 4 (length t) least, le-leb (length t) 4096 most)
+  pub all-kept : h ≡ depthsOf t
+  all-kept = sym (no-depths (w .more)) ∙ w .kept
 
-    pub scan-broken : (n o : ℕ) → scan (suc (length t)) t 0 (replicate 4096 0) ≡ broken (refusalAt n o) → refused n o ≡ checked (verdict t)
-    scan-broken n o e = sym (ap (λ v. checked v) (sized ∙ e))
-
-    pub scan-passed : scan (suc (length t)) t 0 (replicate 4096 0) ≡ passed → accepted 0 0 0 ≡ checked (verdict t)
-    scan-passed e = sym (ap (λ v. checked v) (sized ∙ e))
+  pub all-obeyed : 4 ≤ length t → length t ≤ 4096 → Obeys t
+  all-obeyed least most = record {
+    least = least;
+    most = most;
+    filled = w .ready .reached;
+    rows = λ o s. all-obeys (w .ready .rows o s (s .1));
+  }

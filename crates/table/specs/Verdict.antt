@@ -8,12 +8,10 @@ use lib.ListN.{length, set, replicate}
 use Rattle.octets.specs.Numbers.{u16}
 use Rattle.answer.specs.declared.Answer.{Answer}
 use Rattle.answer.specs.declared.Answer.the-variants.{Refused}
-use Rattle.answer.specs.Numbers.{refusalAt, accepted, refused, tableSize}
+use Rattle.answer.specs.Numbers.{refusalAt, accepted, tableSize}
 use Rattle.answer.specs.declared.Refusal.{Refusal}
 use Rattle.rules.specs.Rules.{partNumber}
 use Rattle.rules.specs.Tests.{RowVerdict, sound, faulty, rowVerdict, rowDepth}
-use Rattle.rules.specs.declared.RowTest.{RowTest}
-use Rattle.rules.specs.declared.RowTest.the-variants.{Sound, Broken}
 
 -- passed, or broken: the refusal
 pub data Verdict : Type 0 where
@@ -38,8 +36,3 @@ verdict t = cond (leb 4 (length t) && leb (length t) 4096) (scan (suc (length t)
 abbrev pub checked : Verdict → Answer
 checked passed = accepted 0 0 0
 checked (broken refusal) = Refused refusal
-
--- the answer that a row's test comes to by itself
-abbrev pub answerTo : RowTest → ℕ → Answer
-answerTo (Sound l x) o = accepted 0 0 0
-answerTo (Broken number) o = refused number o
