@@ -1,42 +1,26 @@
 -- Demand 2 holds of every table.
 -- Assumes nothing.
-use Prim.Native.Nat.{ℕ, zero, suc}
-use mathlib.Core.Bool.{Bool, true, false, not}
-use mathlib.Core.Path.{_≡_, refl, sym, ap, _∙_, fun-ext}
-use mathlib.Core.List.{List, [], _∷_, map}
+use Prim.Native.Nat.{ℕ}
+use mathlib.Core.Path.{_≡_, refl, sym, ap, _∙_}
+use mathlib.Core.List.{List}
 use native.Mathlib.Omega.{arith}
-use lib.Dec.{eqb}
 use lib.ListN.{length, getD, List·getD-eq-default}
-use borrow.Author.Tests.{eqb-true}
-use Rattle.octets.specs.Numbers.{u16, there}
-use Rattle.item.specs.Code.{lengthWithin, index, natural}
+use Rattle.octets.specs.Numbers.{u16}
 use Rattle.row.specs.Offsets.{earlier}
-use Rattle.row.specs.Rows.{Row, Number, Variable, FixedRun, CountedRun, Record, Choice, Octets, Unknown, rowOf, rowAt}
-use Rattle.rules.specs.Rules.{All, Earlier, branches, references, Starts, Obeys}
-use Rattle.row.proofs.Offsets.{earlier-is, earlier-out}
+use Rattle.row.specs.Rows.{rowOf, rowAt}
+use Rattle.rules.specs.Rules.{references, Starts, Obeys}
+use Rattle.row.proofs.Offsets.{earlier-out}
 use Rattle.table.proofs.LastRow.{root-is, is-root}
-use Rattle.table.proofs.Obeyed.{branch-at}
-use Rattle.items.specs.Items.{stop, ask, times, encodingBits}
-use Rattle.encoding.specs.Rows.{presence, rowItems, items, asks}
+use Rattle.items.specs.Items.{stop, encodingBits}
+use Rattle.encoding.specs.Rows.{rowItems, items, asks}
 use Rattle.items.specs.Encoding.{size}
 use Rattle.items.specs.Reading.{accept}
 use Rattle.items.specs.Writing.{written}
 use Rattle.encoding.specs.Demand2.{Demand2}
-use Rattle.encoding.proofs.RowItems.{items-row, fields-earlier}
+use Rattle.encoding.proofs.RowItems.{items-row, earlier-items, rowItems-same}
 use Rattle.items.proofs.Messages.{decode-sound}
 use Rattle.items.proofs.Written.{encode-complete, encode-sound}
 use Rattle.encoding.proofs.Demand3.{stands-decode, decode-stands, length-encoding, read-passed, write-passed}
-
--- a branch that is not there has no row: its reference is that of a reserved branch
-gone : (rs : List ℕ) (i : ℕ) → getD (map there rs) i false ≡ false → getD rs i 65535 ≡ 65535
-unfolding there
-gone [] i e = refl
-gone (r ∷ rs) zero e = go (eqb r 65535) refl e
-  where
-    go : (b : Bool) → eqb r 65535 ≡ b → not b ≡ false → r ≡ 65535
-    go true q e = eqb-true r 65535 q
-    go false q e = cc
-gone (r ∷ rs) (suc i) e = gone rs i e
 
 module _ (t : List ℕ) (h : Obeys t) (o : ℕ) (s : Starts t o) where
   -- 65,535, the reference of a reserved branch, lies behind the longest table, and no row stands there
@@ -47,26 +31,11 @@ module _ (t : List ℕ) (h : Obeys t) (o : ℕ) (s : Starts t o) where
       let b : getD t 65538 0 ≡ 0 = List·getD-eq-default t 0 (omega (arith, h .most)) in
       items-row t 65535 ∙ rw (a, b) refl
 
-  branch-same : (rs : List ℕ) → All (Earlier t o) (branches rs) → (i : ℕ) → earlier stop o (items t) (getD rs i 65535) ≡ items t (getD rs i 65535)
-  branch-same rs a i = go (getD (map there rs) i false) refl
-    where
-      go : (b : Bool) → getD (map there rs) i false ≡ b → earlier stop o (items t) (getD rs i 65535) ≡ items t (getD rs i 65535)
-      go true e = earlier-is stop o (items t) (getD rs i 65535) (branch-at (Earlier t o) rs i 65535 a e .1)
-      go false e = rw (gone rs i e) (earlier-out stop o (items t) 65535 (omega (arith, h .most, s .1)) ∙ sym none-there)
-
-  same : (r : Row) → All (Earlier t o) (references r) → rowItems (earlier stop o (items t)) r ≡ rowItems (items t) r
-  unfolding rowItems references
-  same (Number low span) a = refl
-  same Variable a = refl
-  same (FixedRun n r) a = ap (times n) (earlier-is stop o (items t) r (a .0 .1))
-  same (CountedRun most r) a = ap (λ p. ask (lengthWithin 0 most) (λ v. times (natural v) p)) (earlier-is stop o (items t) r (a .0 .1))
-  same (Record rs fs) a = ap (presence fs) (fun-ext (fields-earlier t o rs a))
-  same (Choice rs) a = ap (ask (index (map there rs))) (fun-ext (λ v. branch-same rs a (natural v)))
-  same (Octets least most) a = refl
-  same Unknown a = refl
-
   row-asks : items t o ≡ rowItems (items t) (rowAt t o)
-  row-asks = items-row t o ∙ same (rowAt t o) (h .rows o s .referencesEarlier)
+  row-asks =
+      items-row t o
+      ∙ rowItems-same (earlier stop o (items t)) (items t) (rowAt t o) (earlier-items t o (references (rowAt t o)) (h .rows o s .referencesEarlier))
+      (λ rs e. earlier-out stop o (items t) 65535 (omega (arith, h .most, s .1)) ∙ sym none-there)
 
 module _ (t : List ℕ) where
   pub demand2 : Demand2 t

@@ -1,3 +1,4 @@
+pub mod References
 pub mod RowItems
 pub mod Every
 pub mod Fitting
@@ -6,3 +7,4 @@ pub mod Demand3Octets
 pub mod Demand2
 pub mod UnderTable
 pub mod OpenOctets
+pub mod Guarded

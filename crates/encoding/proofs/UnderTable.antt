@@ -1,25 +1,21 @@
 -- Under a table that breaks a rule its fault is answered, and its numbers under no other.
 -- Assumes nothing.
 use Prim.Native.Nat.{ℕ, _-_}
-use mathlib.Core.Bool.{Bool, true, false, cond}
 use mathlib.Core.Path.{_≡_, refl, ap, _∙_}
 use mathlib.Core.List.{List}
 use native.Mathlib.Omega.{arith}
-use lib.Dec.{leb}
 use lib.IntN.{ℤ, pos}
-use lib.ListN.{length, replicate}
-use Rattle.bits.specs.Access.{mostOctets}
+use lib.ListN.{replicate}
 use Rattle.values.specs.Values.{listOctets}
 use Rattle.answer.specs.Numbers.{refusalAt, refused}
-use Rattle.answer.specs.declared.Refusal.{Refusal}
 use Rattle.rules.specs.Rules.{itsEnd, itsKind, itsLength, itsNumbers, itsReferences, itsBranch, itsDepth}
 use Rattle.table.specs.Faults.{Fault, tooSmall, tooLarge, inRow}
 use Rattle.table.specs.Verdict.{Verdict, passed, broken, verdict}
 use Rattle.table.proofs.Decides.{refuses-exactly}
-use Rattle.items.specs.Reading.{ReadOutcome, accept, refuse, decode, readAnswer}
+use Rattle.items.specs.Reading.{ReadOutcome, accept, refuse, readMessage, readAnswer}
 use Rattle.items.specs.Writing.{WriteOutcome, written, unwritten, encode, writeAnswer}
 use Rattle.items.specs.Slices.{valuesAfter, packedAfter, outputAfter}
-use Rattle.items.proofs.Numbers.{OfMessage, decode-of, encode-of}
+use Rattle.items.proofs.Numbers.{OfMessage, read-of, encode-of}
 use Rattle.encoding.specs.Rows.{asks}
 use Rattle.encoding.specs.Reading as reading
 use Rattle.encoding.specs.Reading.{readOutcome}
@@ -66,16 +62,8 @@ module _ (t : List ℕ) where
       of-answer (accept vs bits) e = absurd (let z : _≡_ {A = ℕ} 0 1 = cc in omega arith)
       of-answer (refuse r) e = cc
 
-      of-message : (b : Bool) → readAnswer (cond b (decode (asks t) s room) (refuse (refusalAt 13 0))) ≡ refused n p → OfMessage n
-      of-message true e = decode-of (asks t) s room (refusalAt n p) (of-answer (decode (asks t) s room) e)
-      of-message false e =
-          let z : refusalAt 13 0 ≡ refusalAt n p = cc in
-          let w : 13 ≡ n = ap (λ (r : Refusal). r .number) z in
-          (omega arith, omega arith)
-
-      go : (v : Verdict) → verdict t ≡ v
-          → readAnswer (reading.onPassed v (cond (leb (length s) mostOctets) (decode (asks t) s room) (refuse (refusalAt 13 0)))) ≡ refused n p → Fault t n p
-      go passed q e = absurd (apart n h (of-message (leb (length s) mostOctets) e))
+      go : (v : Verdict) → verdict t ≡ v → readAnswer (reading.onPassed v (readMessage (asks t) s room)) ≡ refused n p → Fault t n p
+      go passed q e = absurd (apart n h (read-of (asks t) s room n p (of-answer (readMessage (asks t) s room) e)))
       go (broken r) q e = refuses-exactly t n p .0 (q ∙ let z : r ≡ refusalAt n p = cc in ap broken z)
 
   write-fault : (vs : List ℤ) (cap n p : ℕ) → OfTable n → writeAnswer (writeOutcome t vs cap) ≡ refused n p → Fault t n p

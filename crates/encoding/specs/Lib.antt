@@ -7,3 +7,4 @@ pub mod Demand3Octets
 pub mod Demand2
 pub mod UnderTable
 pub mod OpenOctets
+pub mod Guarded

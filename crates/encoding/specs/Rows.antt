@@ -10,7 +10,7 @@ use lib.IntN.{pos}
 use lib.ListN.{getD}
 use Rattle.octets.specs.Numbers.{there}
 use Rattle.item.specs.Code.{number, variable, lengthWithin, index, natural}
-use Rattle.row.specs.Offsets.{byOffset}
+use Rattle.row.specs.Offsets.{earlier, byOffset}
 use Rattle.row.specs.Rows.{Row, Number, Variable, FixedRun, CountedRun, Record, Choice, Octets, Unknown, rowAt}
 use Rattle.table.specs.Root.{root}
 use Rattle.items.specs.Items.{Items, stop, ask, _then_, one, times}
@@ -28,6 +28,10 @@ fields g (r ∷ rs) [] = stop
 fields g (r ∷ rs) (true ∷ ps) = g r then fields g rs ps
 fields g (r ∷ rs) (false ∷ ps) = fields g rs ps
 
+-- a length from a least to a most, then so many octets
+abbrev pub octetsWithin : ℕ → ℕ → Items
+octetsWithin least most = ask (lengthWithin least most) (λ v. times (natural v) (one (number (pos 0) 255)))
+
 -- what a row asks for, with g for the rows that it refers to
 unfoldable pub rowItems : (ℕ → Items) → Row → Items
 rowItems g (Number low span) = one (number low span)
@@ -36,12 +40,16 @@ rowItems g (FixedRun count r) = times count (g r)
 rowItems g (CountedRun most r) = ask (lengthWithin 0 most) (λ v. times (natural v) (g r))
 rowItems g (Record rs flags) = presence flags (fields g rs)
 rowItems g (Choice rs) = ask (index (map there rs)) (λ v. g (getD rs (natural v) 65535))
-rowItems g (Octets least most) = ask (lengthWithin least most) (λ v. times (natural v) (one (number (pos 0) 255)))
+rowItems g (Octets least most) = octetsWithin least most
 rowItems g Unknown = stop
 
 -- what the row at o asks for
 unfoldable pub items : List ℕ → ℕ → Items
 items t = byOffset stop (λ o g. rowItems g (rowAt t o))
+
+-- what the rows before o ask for
+abbrev pub behind : List ℕ → ℕ → ℕ → Items
+behind t o = earlier stop o (items t)
 
 -- what a table asks for
 unfoldable pub asks : List ℕ → Items

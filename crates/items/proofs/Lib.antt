@@ -5,4 +5,5 @@ pub mod Written
 pub mod Filled
 pub mod Walks
 pub mod Spells
+pub mod Numbered
 pub mod Numbers

@@ -8,7 +8,7 @@ use mathlib.Core.Logic.{_↔_}
 use mathlib.Core.List.{List, [], _∷_, _++_}
 use native.Mathlib.Omega.{arith}
 use native.Mathlib.Nat.{zero-add}
-use lib.Dec.{eqb}
+use lib.Dec.{leb, eqb}
 use lib.IntN.{ℤ}
 use lib.ListN.{length, getD, replicate, length-append, length-replicate}
 use Rattle.answer.specs.Numbers.{refusalAt}
@@ -16,7 +16,7 @@ use Rattle.bits.specs.Bits.{unpack, pack}
 use Rattle.bits.proofs.Bits.{length-unpack, length-pack, unpack-pack, pack-unpack}
 use Rattle.items.specs.Items.{Items, Allows, encodingBits}
 use Rattle.items.specs.Encoding.{size, padding, encoding}
-use Rattle.items.specs.Reading.{Reading, done, stuck, readItems, accept, refuse, allZero, closeRead, decode}
+use Rattle.items.specs.Reading.{Reading, done, stuck, readItems, ReadOutcome, accept, refuse, allZero, closeRead, decode, readMessage, readValues}
 use Rattle.items.proofs.ReadItems.{read-complete, read-sound}
 use borrow.Author.Tests.{eqb-true, eq-eqb}
 
@@ -110,3 +110,19 @@ one-list p vs ws hv hw e =
 pub one-message : (p : Items) (s t : List ℕ) (room room′ : ℕ) → ((i : ℕ) → getD s i 0 < 256) → ((i : ℕ) → getD t i 0 < 256) → (vs : List ℤ) (m n : ℕ)
     → decode p s room ≡ accept vs m → decode p t room′ ≡ accept vs n → s ≡ t
 one-message p s t room room′ hs ht vs m n a b = sym (decode-sound p s room hs vs m a .octets) ∙ decode-sound p t room′ ht vs n b .octets
+
+-- ── any octets ──
+
+-- no more values come back than there is room for
+pub message-fits : (p : Items) (s : List ℕ) (room : ℕ) → length (readValues (readMessage p s room)) ≤ room
+message-fits p s room = go (leb (length s) 65535) (decode p s room) refl
+  where
+    go : (b : Bool) (x : ReadOutcome) → decode p s room ≡ x → length (readValues (cond b x (refuse (refusalAt 13 0)))) ≤ room
+    go false x q = omega arith
+    go true (refuse refusal) q = omega arith
+    go true (accept vs n) q = decode-fits p s room vs n q
+
+-- no octets
+pub message-empty : (p : Items) (s : List ℕ) (room : ℕ) → length s ≡ 0 → readMessage p s room ≡ refuse (refusalAt 2 0)
+message-empty p [] room h = refl
+message-empty p (o ∷ os) room h = absurd (omega arith)

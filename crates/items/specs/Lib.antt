@@ -6,3 +6,4 @@ pub mod Slices
 pub mod Filled
 pub mod Walk
 pub mod Spell
+pub mod Numbered

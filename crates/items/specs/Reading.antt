@@ -3,11 +3,12 @@
 use Prim.Native.Nat.{ℕ, zero, suc, _+_}
 use mathlib.Core.Bool.{Bool, true, false, cond, _&&_}
 use mathlib.Core.List.{List, [], _∷_, _++_}
-use lib.Dec.{eqb}
+use lib.Dec.{leb, eqb}
 use lib.IntN.{ℤ}
 use lib.ListN.{length}
 use Rattle.bits.specs.Bits.{unpack}
-use Rattle.answer.specs.Numbers.{messageEnds, noRoom, notPadding, refusalAt, accepted}
+use Rattle.bits.specs.Access.{mostOctets}
+use Rattle.answer.specs.Numbers.{messageEnds, noRoom, notPadding, tooLong, refusalAt, accepted}
 use Rattle.answer.specs.declared.Answer.{Answer}
 use Rattle.answer.specs.declared.Answer.the-variants.{Refused}
 use Rattle.answer.specs.declared.Refusal.{Refusal}
@@ -58,6 +59,10 @@ closeRead n (stuck refusal) = refuse refusal
 abbrev pub decode : Items → List ℕ → ℕ → ReadOutcome
 decode p [] room = refuse (refusalAt messageEnds 0)
 decode p (o ∷ os) room = closeRead (length (o ∷ os)) (readItems p (unpack (o ∷ os)) room 0)
+
+-- any octets as one message: 13 first
+abbrev pub readMessage : Items → List ℕ → ℕ → ReadOutcome
+readMessage p s room = cond (leb (length s) mostOctets) (decode p s room) (refuse (refusalAt tooLong 0))
 
 -- ── as the calls answer it ──
 

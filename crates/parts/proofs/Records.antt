@@ -18,10 +18,11 @@ use Rattle.octets.proofs.Numbers.{length-u16s, getD-u16s}
 use Rattle.bits.specs.Bits.{bitsOf}
 use Rattle.bits.proofs.Bits.{length-bitsOf, bitsOf-append}
 use Rattle.item.specs.Code.{number, natural}
+use Rattle.row.specs.Rows.{Record, rowAt}
 use Rattle.rules.specs.Rules.{Obeys, Starts}
 use Rattle.table.proofs.Obeyed.{record-row}
 use Rattle.items.specs.Items.{Items, stop, ask, _then_}
-use Rattle.encoding.specs.Rows.{presence, fields, items}
+use Rattle.encoding.specs.Rows.{presence, fields, rowItems, items}
 use Rattle.encoding.proofs.RowItems.{items-record}
 use Rattle.parts.specs.Parts.{fieldsOf, markedFields, fieldIf}
 
@@ -83,38 +84,43 @@ module _ (t : List ℕ) (at n : ℕ) (k : List Bool → Items) where
         ap₂ (λ fs f. presence fs f) (ap (λ m. drop m flags) (sym (add-one i))) (fun-ext (λ ps. ap k (b ps))),
       )
 
--- what is left of the record at o after the presence bits of i fields, which gave that mask
-abbrev pub leftAfter : List ℕ → ℕ → ℕ → ℕ → Items
-leftAfter t o i mask = afterMarks t (o + 8) (u16 t (o + 4)) (fieldsOf t o) i mask
+module _ (g : ℕ → Items) (t : List ℕ) (o : ℕ) where
+  -- what is left of the record at o after the presence bits of i fields, which gave that mask
+  abbrev pub leftAfter : ℕ → ℕ → Items
+  leftAfter i mask = afterMarks t (o + 8) (u16 t (o + 4)) (fieldsOf g t o) i mask
 
-module _ {t : List ℕ} {o : ℕ} (h : Obeys t) (s : Starts t o) (k : u16 t (o + 2) ≡ 5) where
-  pub record-start : items t o ≡ leftAfter t o 0 0
-  record-start =
-      let row = record-row h s k in
-      items-record t o _ _ (row .is) (row .all) ∙ sym (marks-none t (o + 8) (u16 t (o + 4)) (fieldsOf t o))
+  pub record-start : rowAt t o ≡ Record (u16s t (o + 6) 4 (u16 t (o + 4))) (u16s t (o + 8) 4 (u16 t (o + 4))) → rowItems g (rowAt t o) ≡ leftAfter 0 0
+  unfolding rowItems
+  record-start is = ap (rowItems g) is ∙ sym (marks-none t (o + 8) (u16 t (o + 4)) (fieldsOf g t o))
 
-  pub record-end : (i mask : ℕ) → i ≡ u16 t (o + 4) → leftAfter t o i mask ≡ markedFields t o mask
+  pub record-end : (i mask : ℕ) → i ≡ u16 t (o + 4) → leftAfter i mask ≡ markedFields g t o mask
   unfolding markedFields
-  record-end i mask e = marks-all t (o + 8) (u16 t (o + 4)) (fieldsOf t o) i mask e
+  record-end i mask e = marks-all t (o + 8) (u16 t (o + 4)) (fieldsOf g t o) i mask e
 
--- the flags behind that of field i, and what the marks up to it leave
-abbrev pub flagsBehind : List ℕ → ℕ → ℕ → List ℕ
-flagsBehind t o i = drop (suc i) (u16s t (o + 8) 4 (u16 t (o + 4)))
+  -- the flags behind that of field i, and what the marks up to it leave
+  abbrev pub flagsBehind : ℕ → List ℕ
+  flagsBehind i = drop (suc i) (u16s t (o + 8) 4 (u16 t (o + 4)))
 
-abbrev pub fieldsBehind : List ℕ → ℕ → ℕ → ℕ → List Bool → Items
-fieldsBehind t o i mask ps = fieldsOf t o (bitsOf i mask ++ ps)
+  abbrev pub fieldsBehind : ℕ → ℕ → List Bool → Items
+  fieldsBehind i mask ps = fieldsOf g t o (bitsOf i mask ++ ps)
 
--- one flag more: what was left begins with it
-pub record-flag : (t : List ℕ) (o i flag mask : ℕ) → i < u16 t (o + 4) → mask < 2 ^ i → flag ≡ u16 t (o + 8 + 4 * i)
-    → leftAfter t o i mask ≡ presence (flag ∷ flagsBehind t o i) (fieldsBehind t o i mask)
-record-flag t o i flag mask l hm ef =
-    marks-step t (o + 8) (u16 t (o + 4)) (fieldsOf t o) i mask (mask * 2) l hm (omega arith) .0
-    ∙ ap (λ x. presence (x ∷ flagsBehind t o i) (fieldsBehind t o i mask)) (sym ef)
+  -- one flag more: what was left begins with it
+  pub record-flag : (i flag mask : ℕ) → i < u16 t (o + 4) → mask < 2 ^ i → flag ≡ u16 t (o + 8 + 4 * i)
+      → leftAfter i mask ≡ presence (flag ∷ flagsBehind i) (fieldsBehind i mask)
+  record-flag i flag mask l hm ef =
+      marks-step t (o + 8) (u16 t (o + 4)) (fieldsOf g t o) i mask (mask * 2) l hm (omega arith) .0
+      ∙ ap (λ x. presence (x ∷ flagsBehind i) (fieldsBehind i mask)) (sym ef)
 
--- and its mark made leaves the rest
-pub record-marked : (t : List ℕ) (o i mask marked : ℕ) → i < u16 t (o + 4) → mask < 2 ^ i → marked / 2 ≡ mask
-    → presence (flagsBehind t o i) (λ ps. fieldsBehind t o i mask (eqb (marked % 2) 1 ∷ ps)) ≡ leftAfter t o (i + 1) marked
-record-marked t o i mask marked l hm em = marks-step t (o + 8) (u16 t (o + 4)) (fieldsOf t o) i mask marked l hm em .1
+  -- and its mark made leaves the rest
+  pub record-marked : (i mask marked : ℕ) → i < u16 t (o + 4) → mask < 2 ^ i → marked / 2 ≡ mask
+      → presence (flagsBehind i) (λ ps. fieldsBehind i mask (eqb (marked % 2) 1 ∷ ps)) ≡ leftAfter (i + 1) marked
+  record-marked i mask marked l hm em = marks-step t (o + 8) (u16 t (o + 4)) (fieldsOf g t o) i mask marked l hm em .1
+
+-- under the rules the rows that it refers to are the table's own
+pub record-known : {t : List ℕ} {o : ℕ} → Obeys t → Starts t o → u16 t (o + 2) ≡ 5 → items t o ≡ leftAfter (items t) t o 0 0
+record-known {t} {o} h s k =
+    let row = record-row h s k in
+    items-record t o _ _ (row .is) (row .all) ∙ sym (marks-none t (o + 8) (u16 t (o + 4)) (fieldsOf (items t) t o))
 
 -- a mask of fewer than 32 marks has room for one more
 pub mask-lt : (i mask : ℕ) → mask < 2 ^ i → i < 32 → mask < 2147483648
@@ -125,33 +131,34 @@ marked-lt i mask marked h e = rw (add-one i) (omega arith)
 
 -- ── fields ──
 
--- what is left of the fields from the i-th on
-abbrev pub fieldsFrom : List ℕ → ℕ → ℕ → ℕ → Items
-fieldsFrom t o mask i = fields (items t) (drop i (u16s t (o + 6) 4 (u16 t (o + 4)))) (drop i (bitsOf (u16 t (o + 4)) mask))
-
-pub fields-start : (t : List ℕ) (o mask : ℕ) → markedFields t o mask ≡ fieldsFrom t o mask 0
-unfolding markedFields
-fields-start t o mask = refl
-
 fields-cons : (g : ℕ → Items) (r : ℕ) (rs : List ℕ) (b : Bool) (ps : List Bool) → fields g (r ∷ rs) (b ∷ ps) ≡ fieldIf b (g r) then fields g rs ps
 unfolding fields
 fields-cons g r rs true ps = refl
 fields-cons g r rs false ps = refl
 
-pub fields-end : (t : List ℕ) (o mask i : ℕ) → i ≡ u16 t (o + 4) → fieldsFrom t o mask i ≡ stop
-unfolding fields
-fields-end t o mask i e =
-    let rs = u16s t (o + 6) 4 (u16 t (o + 4)) in
-    let d : drop i rs ≡ [] = ap (λ m. drop m rs) (e ∙ sym (length-u16s t 4 (o + 6) (u16 t (o + 4)))) ∙ drop-length rs in
-    rw d
+module _ (g : ℕ → Items) (t : List ℕ) (o mask : ℕ) where
+  -- what is left of the fields from the i-th on
+  abbrev pub fieldsFrom : ℕ → Items
+  fieldsFrom i = fields g (drop i (u16s t (o + 6) 4 (u16 t (o + 4)))) (drop i (bitsOf (u16 t (o + 4)) mask))
 
-pub fields-next : (t : List ℕ) (o mask i row : ℕ) (present : Bool) → i < u16 t (o + 4) → row ≡ u16 t (o + 6 + 4 * i) → present ≡ getD (bitsOf (u16 t (o + 4)) mask) i false
-    → fieldsFrom t o mask i ≡ fieldIf present (items t row) then fieldsFrom t o mask (i + 1)
-fields-next t o mask i row present l er ep =
-    let m = u16 t (o + 4) in
-    let rs = u16s t (o + 6) 4 m in
-    let ps = bitsOf m mask in
-    let dr : drop i rs ≡ row ∷ drop (suc i) rs = drop-cons rs i 0 (rw (length-u16s t 4 (o + 6) m) l) ∙ ap (_∷ drop (suc i) rs) (getD-u16s t 4 (o + 6) m i 0 l ∙ sym er) in
-    let dp : drop i ps ≡ present ∷ drop (suc i) ps = drop-cons ps i false (rw (length-bitsOf m mask) l) ∙ ap (_∷ drop (suc i) ps) (sym ep) in
-    ap₂ (fields (items t)) dr dp ∙ fields-cons (items t) row (drop (suc i) rs) present (drop (suc i) ps)
-    ∙ ap (λ n. fieldIf present (items t row) then fields (items t) (drop n rs) (drop n ps)) (sym (add-one i))
+  pub fields-start : markedFields g t o mask ≡ fieldsFrom 0
+  unfolding markedFields
+  fields-start = refl
+
+  pub fields-end : (i : ℕ) → i ≡ u16 t (o + 4) → fieldsFrom i ≡ stop
+  unfolding fields
+  fields-end i e =
+      let rs = u16s t (o + 6) 4 (u16 t (o + 4)) in
+      let d : drop i rs ≡ [] = ap (λ m. drop m rs) (e ∙ sym (length-u16s t 4 (o + 6) (u16 t (o + 4)))) ∙ drop-length rs in
+      rw d
+
+  pub fields-next : (i row : ℕ) (present : Bool) → i < u16 t (o + 4) → row ≡ u16 t (o + 6 + 4 * i) → present ≡ getD (bitsOf (u16 t (o + 4)) mask) i false
+      → fieldsFrom i ≡ fieldIf present (g row) then fieldsFrom (i + 1)
+  fields-next i row present l er ep =
+      let m = u16 t (o + 4) in
+      let rs = u16s t (o + 6) 4 m in
+      let ps = bitsOf m mask in
+      let dr : drop i rs ≡ row ∷ drop (suc i) rs = drop-cons rs i 0 (rw (length-u16s t 4 (o + 6) m) l) ∙ ap (_∷ drop (suc i) rs) (getD-u16s t 4 (o + 6) m i 0 l ∙ sym er) in
+      let dp : drop i ps ≡ present ∷ drop (suc i) ps = drop-cons ps i false (rw (length-bitsOf m mask) l) ∙ ap (_∷ drop (suc i) ps) (sym ep) in
+      ap₂ (fields g) dr dp ∙ fields-cons g row (drop (suc i) rs) present (drop (suc i) ps)
+      ∙ ap (λ n. fieldIf present (g row) then fields g (drop n rs) (drop n ps)) (sym (add-one i))

@@ -18,7 +18,8 @@ use Rattle.rules.proofs.Depths.{depths}
 use Rattle.items.specs.Items.{Items, stop, ask, _then_, one, times}
 use Rattle.encoding.specs.Rows.{presence, fields, rowItems}
 use Rattle.visits.specs.Visits.{mark, isMark, marked}
-use Rattle.visits.proofs.Rows.{by-row, all-map, all-branches, Matched, row-matched}
+use Rattle.encoding.proofs.References.{by-row, all-map, all-branches}
+use Rattle.visits.proofs.Rows.{Matched, row-matched}
 use Rattle.visits.proofs.Unmarked.{no-mark, marked-row}
 
 -- at most n marks before the first item and at most b between two; the end stands behind an item, or at the start where it may

@@ -18,7 +18,7 @@ use Rattle.items.specs.Items.{Items, stop, ask, _then_, one, times}
 use Rattle.encoding.specs.Rows.{presence, fields, rowItems, items}
 use Rattle.encoding.proofs.RowItems.{items-row}
 use Rattle.visits.specs.Visits.{mark, isMark, marked, unmarked}
-use Rattle.visits.proofs.Rows.{by-row, all-map, all-branches}
+use Rattle.encoding.proofs.References.{by-row, all-map, all-branches}
 
 -- the length of octets is no mark
 pub no-mark : (least most : ℕ) → within least 16383 most ≡ true → isMark (lengthWithin least most) ≡ false

@@ -51,7 +51,7 @@ Begins t o list p from output (Done to) = Continues list p from stop (stateAt to
 Begins t o list p from output (Run count row to) = Earlier t o row × Continues list p from (times count (items t row)) (stateAt to output)
 Begins t o list p from output (Numbers count row to) = (row + 12 ≤ length t) × Continues list p from (times count (numberRow t row)) (stateAt to output)
 Begins t o list p from output (Fields mask to) =
-    (u16 t (o + 2) ≡ 5) × (mask < 2 ^ u16 t (o + 4)) × Continues list p from (markedFields t o mask) (stateAt to output)
+    (u16 t (o + 2) ≡ 5) × (mask < 2 ^ u16 t (o + 4)) × Continues list p from (markedFields (items t) t o mask) (stateAt to output)
 Begins t o list p from output (Refused refusal) = Writes list p from output (StepRefused refusal)
 
 -- a field marked by its flag: always, or by a presence value; the mark stands lowest in the new mask

@@ -120,7 +120,7 @@ fn write_fields(
     cursor: Cursor,
 ) -> Step
     requires { ⌜ Obeys (now table) × Starts (now table) at × (u16 (now table) (at + 2) ≡ 5) × (mask < 2 ^ u16 (now table) (at + 4)) × (length (now output) ≤ mostOctets) ⌝ }
-    ensures { λ r. ⌜ Writes (listIn (now (values .entry)) (now (packed .entry))) (markedFields (now (table .entry)) at mask) (stateAt cursor (now (output .entry))) (now (output .exit)) r ⌝ }
+    ensures { λ r. ⌜ Writes (listIn (now (values .entry)) (now (packed .entry))) (markedFields (items (now (table .entry))) (now (table .entry)) at mask) (stateAt cursor (now (output .entry))) (now (output .exit)) r ⌝ }
 {
     let fields = Row::count_at(table, at);
     let mut field = 0;

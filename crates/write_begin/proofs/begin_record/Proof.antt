@@ -10,7 +10,7 @@ use lib.ListN.{length}
 use Rattle.octets.specs.Numbers.{u16}
 use Rattle.table.proofs.Obeyed.{RecordRow, record-row}
 use Rattle.encoding.specs.Rows.{items}
-use Rattle.parts.proofs.Records.{leftAfter, record-start, record-end, mask-lt, marked-lt}
+use Rattle.parts.proofs.Records.{leftAfter, record-known, record-end, mask-lt, marked-lt}
 use Rattle.write_steps.specs.Writes.{listIn, stateAt, Continues}
 use Rattle.write_steps.proofs.Flow.{continues-trans, continues-same}
 use Rattle.write_begin.proofs.Records.{marked-on, no-mark}
@@ -20,7 +20,7 @@ use Rattle.write_begin.proofs.begin_record.Tie as tie
 abbrev Inv-loop : tie.InvT-loop
 Inv-loop table at values packed output₀ fields field₀ mask₀ here₀ output field mask here =
     (field ≤ fields) × (length output ≡ length output₀) × (mask < 2 ^ field)
-    × Continues (listIn values packed) (items table at) (stateAt here₀ output₀) (leftAfter table at field mask) (stateAt here output)
+    × Continues (listIn values packed) (items table at) (stateAt here₀ output₀) (leftAfter (items table) table at field mask) (stateAt here output)
 
 abbrev μ-loop : tie.MeasureT-loop
 μ-loop table at values packed output₀ fields field₀ mask₀ here₀ output field mask here = fields - field
@@ -42,7 +42,7 @@ count-at-requires c κs = omega (arith, row-at (c .before .before .before) .insi
 loop-holds : tie.Need-loop-holds Inv-loop μ-loop
 loop-holds c =
     let s = c .before .before .before .before in
-    (omega arith, refl, omega arith, continues-same (record-start (s .pre .0) (s .pre .1) (s .pre .2)))
+    (omega arith, refl, omega arith, continues-same (record-known (s .pre .0) (s .pre .1) (s .pre .2)))
 
 flag-at-requires : tie.Need-flag-at-requires Inv-loop μ-loop
 flag-at-requires c κs = in-row c .1
@@ -85,7 +85,7 @@ returns-2 c =
     let e : loop .field ≡ u16 (now (s .args .table)) (s .args .at + 4) = omega (arith, c .before .before .count-at .ensures .0) in (
       s .pre .2,
       subst (λ (n : ℕ). loop .mask < 2 ^ n) e (loop .inv .2),
-      continues-trans (loop .inv .3) (continues-same (record-end (s .pre .0) (s .pre .1) (s .pre .2) (loop .field) (loop .mask) e)),
+      continues-trans (loop .inv .3) (continues-same (record-end (items (now (s .args .table))) (now (s .args .table)) (s .args .at) (loop .field) (loop .mask) e)),
     )
 
 pub begin-record-spec : {M : Type 1} → statement M

@@ -183,7 +183,7 @@ write-field-returns-5 t c =
 abbrev write-fields-Inv-loop : write-fields-lts.InvT-loop
 write-fields-Inv-loop table at mask values packed output₀ fields field₀ here₀ output field here =
     (field ≤ fields) × (length output ≡ length output₀)
-    × Continues (listIn values packed) (markedFields table at mask) (stateAt here₀ output₀) (fieldsFrom table at mask field) (stateAt here output)
+    × Continues (listIn values packed) (markedFields (items table) table at mask) (stateAt here₀ output₀) (fieldsFrom (items table) table at mask field) (stateAt here output)
 
 abbrev write-fields-μ-loop : write-fields-lts.MeasureT-loop
 write-fields-μ-loop table at mask values packed output₀ fields field₀ here₀ output field here = fields - field
@@ -196,7 +196,7 @@ write-fields-count-at-requires t c κs =
 write-fields-loop-holds : (t : ℕ) → write-fields-lts.Need-loop-holds (write-fields-known t) (write-fields-at t) write-fields.Post write-fields-Inv-loop write-fields-μ-loop
 write-fields-loop-holds t c =
     let a = c .before .before .before .before .args in
-    (omega arith, refl, continues-same (fields-start (now (a .table)) (a .at) (a .mask)))
+    (omega arith, refl, continues-same (fields-start (items (now (a .table))) (now (a .table)) (a .at) (a .mask)))
 
 -- where the field stands that the loop has come to
 in-row : (t : ℕ) (c : write-fields-lts.In-loop (write-fields-known t) (write-fields-at t) write-fields.Post write-fields-Inv-loop write-fields-μ-loop) → let s = c .before .before .before .before .before .before in
@@ -228,14 +228,14 @@ write-fields-write-field-requires t c κs =
 
 -- what is left begins with that field
 next-field : (t : ℕ) (c : write-fields-lts.After-is-marked (write-fields-known t) (write-fields-at t) write-fields.Post write-fields-Inv-loop write-fields-μ-loop) → let s = c .before .before .before .before .before .before .before .before in
-    fieldsFrom (now (s .args .table)) (s .args .at) (s .args .mask) (c .before .before .before .loop .field)
+    fieldsFrom (items (now (s .args .table))) (now (s .args .table)) (s .args .at) (s .args .mask) (c .before .before .before .loop .field)
     ≡ fieldIf (c .is-marked .result) (items (now (s .args .table)) (c .before .field-at .result))
-    then fieldsFrom (now (s .args .table)) (s .args .at) (s .args .mask) (c .before .before .before .loop .field + 1)
+    then fieldsFrom (items (now (s .args .table))) (now (s .args .table)) (s .args .at) (s .args .mask) (c .before .before .before .loop .field + 1)
 next-field t c =
     let test = c .before .before in
     let a = test .before .before .before .before .before .before .args in
     let field = test .before .loop .field in
-    fields-next (now (a .table)) (a .at) (a .mask) field _ _ (in-row t test .0) (c .before .field-at .ensures .0)
+    fields-next (items (now (a .table))) (now (a .table)) (a .at) (a .mask) field _ _ (in-row t test .0) (c .before .field-at .ensures .0)
     (c .is-marked .ensures ∙ ap (λ (n : ℕ). getD (bitsOf n (a .mask)) field false) (test .before .before .count-at .ensures .0))
 
 write-fields-returns : (t : ℕ) → write-fields-lts.Need-returns (write-fields-known t) (write-fields-at t) write-fields.Post write-fields-Inv-loop write-fields-μ-loop
@@ -259,7 +259,7 @@ write-fields-returns-2 t c =
     let a = c .before .before .before .before .before .before .args in
     let loop = c .before .loop in
     let e : loop .field ≡ u16 (now (a .table)) (a .at + 4) = omega (arith, c .before .before .count-at .ensures .0) in
-    continues-end (continues-trans (loop .inv .2) (continues-same (fields-end (now (a .table)) (a .at) (a .mask) (loop .field) e)))
+    continues-end (continues-trans (loop .inv .2) (continues-same (fields-end (items (now (a .table))) (now (a .table)) (a .at) (a .mask) (loop .field) e)))
 
 -- ── a row ──
 
