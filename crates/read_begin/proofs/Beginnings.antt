@@ -3,22 +3,29 @@
 use Prim.Native.Nat.{ℕ, _+_, _*_, _/_, _%_, _<_}
 use mathlib.Core.Bool.{Bool, true, false, cond}
 use mathlib.Core.Logic.{_≢_}
-use mathlib.Core.Path.{_≡_, refl, ap}
-use mathlib.Core.List.{List, _∷_}
+use mathlib.Core.Path.{_≡_, refl, sym, ap, _∙_}
+use mathlib.Core.List.{List, [], _∷_}
 use native.Mathlib.Omega.{arith}
-use borrow.Author.Tests.{eqb-true}
+use borrow.Author.Tests.{eqb-true, le-leb}
 use lib.Dec.{eqb}
 use lib.IntN.{ℤ, pos}
-use lib.ListN.{length}
+use lib.ListN.{length, drop}
+use Rattle.bits.specs.Bits.{unpack, width}
+use Rattle.answer.specs.Numbers.{noBranch, refusalAt}
 use Rattle.answer.specs.declared.Refusal.{Refusal}
-use Rattle.item.specs.Code.{number, natural}
+use Rattle.item.specs.Code.{number, index, natural}
+use Rattle.item.specs.Answers.{itemAt}
 use Rattle.item.specs.declared.Item.{Item}
+use Rattle.item.specs.declared.Item.the-variants.{Bad}
 use Rattle.octets.specs.Numbers.{u16}
-use Rattle.rules.specs.Rules.{Obeys, Starts, Earlier}
-use Rattle.table.proofs.Obeyed.{number-row}
+use Rattle.row.proofs.Fits.{number-fits, fixed-fits, counted-fits}
+use Rattle.rules.specs.Rules.{references}
 use Rattle.items.specs.Items.{Items, one, times}
-use Rattle.encoding.specs.Rows.{presence, items}
-use Rattle.encoding.proofs.RowItems.{items-number}
+use Rattle.encoding.specs.Rows.{presence}
+use Rattle.encoding.specs.Guarded.{never}
+use Rattle.parts.specs.Parts.{NoChoice}
+use Rattle.guard.specs.Readable.{asksAt, asksFrom, Readable, Opened}
+use Rattle.guard.proofs.Readable.{Reached, number-asks, reached-opened}
 use Rattle.parts.proofs.Records.{presence-always, presence-optional}
 use Rattle.read_steps.specs.declared.Cursor.{Cursor}
 use Rattle.read_steps.specs.declared.Step.{Step}
@@ -27,7 +34,7 @@ use Rattle.read_begin.specs.declared.Begun.the-variants.{Run, Numbers, F
 use Rattle.read_steps.specs.Reads.{State, stateAt, Reads, Continues, countOf}
 use Rattle.read_steps.proofs.Keeping.{Keeping, first-refused, first-kept}
 use Rattle.read_begin.specs.Begins.{wholeOf, runOf, Begins, Marks}
-use Rattle.read_steps.proofs.Flow.{continues-trans, continues-same, continues-done}
+use Rattle.read_steps.proofs.Flow.{continues-trans, continues-same, continues-done, refused-item}
 
 -- ── rows ──
 
@@ -38,24 +45,43 @@ begins-reads t o (Past to) r = continues-done r
 begins-reads t o (Refused refusal) r = r
 
 -- a number row alone is a run of one
-pub begins-number : {t : List ℕ} (obeys : Obeys t) {o : ℕ} (starts : Starts t o) → u16 t (o + 2) ≡ 1 → {message : List ℕ} {room : ℕ} {from : State}
-    → Begins t o message room (items t o) from (from .values) (from .packed) (Numbers 1 o (from .cursor))
+pub begins-number : {t : List ℕ} {o : ℕ} → Readable t o → u16 t (o + 2) ≡ 1 → {message : List ℕ} {room : ℕ} {from : State}
+    → Begins t o message room (asksAt t o) from (from .values) (from .packed) (Numbers 1 o (from .cursor))
 unfolding one times
-begins-number {t} obeys {o} starts kind =
-    let row = number-row obeys starts kind in
-    (row .1, continues-same (items-number t o _ _ (row .0)))
+begins-number h kind = (number-fits (h .row) kind .1, continues-same (number-asks h kind))
 
 -- so many times an earlier row: numbers, where it is a number row
-pub begins-run : {t : List ℕ} (obeys : Obeys t) (o count row : ℕ) → o < length t → Earlier t o row → {message : List ℕ} {room : ℕ} {p : Items} {from : State} {values : List ℤ}
-    {packed : List ℕ} {to : Cursor} → Continues message room p from (times count (items t row)) (stateAt to values packed)
+pub begins-run : {t : List ℕ} (o count row : ℕ) → Reached t o row → {message : List ℕ} {room : ℕ} {p : Items} {from : State} {values : List ℤ}
+    {packed : List ℕ} {to : Cursor} → Continues message room p from (times count (asksFrom t o row)) (stateAt to values packed)
     → Begins t o message room p from values packed (runOf t count row to)
-begins-run {t} obeys o count row inside earlier {message} {room} {p} {from} {values} {packed} {to} f = go (eqb (u16 t (row + 2)) 1) refl
+begins-run {t} o count row reached {message} {room} {p} {from} {values} {packed} {to} f = go (eqb (u16 t (row + 2)) 1) refl
   where
     go : (b : Bool) → eqb (u16 t (row + 2)) 1 ≡ b → Begins t o message room p from values packed (cond b (Numbers count row to) (Run count row to))
     go true e =
-        let r = number-row obeys (earlier .0, omega (arith, earlier .1, inside)) (eqb-true _ _ e) in
-        (r .1, continues-trans f (continues-same (ap (times count) (items-number t row _ _ (r .0)))))
-    go false e = (earlier, f)
+        let k = eqb-true _ _ e in
+        (number-fits (reached .readable .row) k .1, continues-trans f (continues-same (ap (times count) (reached .same ∙ number-asks (reached .readable) k))))
+    go false e = (reached .readable, reached .below, continues-trans f (continues-same (ap (times count) (reached .same))))
+
+-- ── runs, and a row that can't be read ──
+
+-- a run refers to one row
+module _ {t : List ℕ} {o : ℕ} (h : Opened t o) where
+  pub fixed-reached : u16 t (o + 2) ≡ 3 → NoChoice t o → Reached t o (u16 t (o + 6))
+  unfolding references
+  fixed-reached k n = reached-opened h n (rw (fixed-fits (h .readable .row) k .0) (0, omega arith, refl))
+
+  pub counted-reached : u16 t (o + 2) ≡ 4 → NoChoice t o → Reached t o (u16 t (o + 6))
+  unfolding references
+  counted-reached k n = reached-opened h n (rw (counted-fits (h .readable .row) k .0) (0, omega arith, refl))
+
+-- no bits meet an index of no branch
+never-item : (message : List ℕ) (place : ℕ) → itemAt (index []) message place ≡ Bad (refusalAt noBranch place)
+unfolding width
+never-item message place = rw (le-leb 0 (length (drop place (unpack message))) (omega arith))
+
+pub never-reads : {message : List ℕ} {room : ℕ} (a : State) {values : List ℤ} {packed : List ℕ} → Reads message room never a values packed (Refused (refusalAt noBranch (a .cursor .place .0)))
+unfolding one
+never-reads {message} a = refused-item (index []) _ (sym (never-item message (a .cursor .place .0))) refl
 
 -- ── presence bits ──
 

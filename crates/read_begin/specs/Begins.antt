@@ -1,16 +1,16 @@
 -- Where choices lead, and what the reader of a row leaves to be read once the row's own items are: the parts that it refers to.
 use Prim.Native.Nat.{ℕ, _+_, _/_, _%_, _≤_, _<_, _^_}
-use mathlib.Core.Bool.{Bool, cond}
+use mathlib.Core.Bool.{Bool, true, cond}
 use mathlib.Core.Path.{_≡_}
 use mathlib.Core.List.{List, _∷_}
 use lib.Dec.{eqb}
 use lib.IntN.{ℤ}
 use lib.ListN.{length}
-use Rattle.octets.specs.Numbers.{u16}
-use Rattle.rules.specs.Rules.{Starts, Earlier}
+use Rattle.octets.specs.Numbers.{u16, there}
 use Rattle.items.specs.Items.{Items, stop, times}
-use Rattle.encoding.specs.Rows.{presence, items}
-use Rattle.parts.specs.Parts.{NoChoice, numberRow, markedFields}
+use Rattle.encoding.specs.Rows.{presence}
+use Rattle.parts.specs.Parts.{NoChoice, Refers, numberRow, markedFields}
+use Rattle.guard.specs.Readable.{asksAt, asksFrom, Readable}
 use Rattle.read_steps.specs.declared.Cursor.{Cursor}
 use Rattle.read_steps.specs.declared.Step.{Step}
 use Rattle.read_steps.specs.declared.Step.the-variants.{Past, Refused as StepRefused}
@@ -22,16 +22,17 @@ use Rattle.read_steps.specs.Reads.{State, stateAt, Reads, Continues}
 
 -- ── choices ──
 
--- a choice at o, chosen: refused; or the row of its branch, an earlier one, is left
+-- a choice at o, chosen: refused; or the row of its branch, one that is there, is left
 abbrev pub Chooses : List ℕ → ℕ → List ℕ → ℕ → State → List ℤ → List ℕ → Chosen → Type 0
-Chooses t o message room from values packed (Row row to) = Earlier t o row × Continues message room (items t o) from (items t row) (stateAt to values packed)
-Chooses t o message room from values packed (ChosenRefused refusal) = Reads message room (items t o) from values packed (StepRefused refusal)
+Chooses t o message room from values packed (Row row to) =
+    Refers t o row × (there row ≡ true) × Continues message room (asksAt t o) from (asksFrom t o row) (stateAt to values packed)
+Chooses t o message room from values packed (ChosenRefused refusal) = Reads message room (asksAt t o) from values packed (StepRefused refusal)
 
 -- the choices from the row at o on: refused; or a row that is no choice, none behind o, is left
 abbrev pub Leads : List ℕ → ℕ → List ℕ → ℕ → State → List ℤ → List ℕ → Chosen → Type 0
 Leads t o message room from values packed (Row row to) =
-    Starts t row × (row ≤ o) × NoChoice t row × Continues message room (items t o) from (items t row) (stateAt to values packed)
-Leads t o message room from values packed (ChosenRefused refusal) = Reads message room (items t o) from values packed (StepRefused refusal)
+    Readable t row × (row ≤ o) × NoChoice t row × Continues message room (asksAt t o) from (asksAt t row) (stateAt to values packed)
+Leads t o message room from values packed (ChosenRefused refusal) = Reads message room (asksAt t o) from values packed (StepRefused refusal)
 
 -- ── other rows ──
 
@@ -49,11 +50,11 @@ wholeOf (StepRefused refusal) = Refused refusal
 abbrev pub Begins : List ℕ → ℕ → List ℕ → ℕ → Items → State → List ℤ → List ℕ → Begun → Type 0
 Begins t o message room p from values packed (Done to) = Continues message room p from stop (stateAt to values packed)
 Begins t o message room p from values packed (Run count row to) =
-    Earlier t o row × Continues message room p from (times count (items t row)) (stateAt to values packed)
+    Readable t row × (row < o) × Continues message room p from (times count (asksAt t row)) (stateAt to values packed)
 Begins t o message room p from values packed (Numbers count row to) =
     (row + 12 ≤ length t) × Continues message room p from (times count (numberRow t row)) (stateAt to values packed)
 Begins t o message room p from values packed (Fields mask to) =
-    (u16 t (o + 2) ≡ 5) × (mask < 2 ^ u16 t (o + 4)) × Continues message room p from (markedFields t o mask) (stateAt to values packed)
+    (u16 t (o + 2) ≡ 5) × (mask < 2 ^ u16 t (o + 4)) × Continues message room p from (markedFields (asksFrom t o) t o mask) (stateAt to values packed)
 Begins t o message room p from values packed (Refused refusal) = Reads message room p from values packed (StepRefused refusal)
 
 -- a field marked by its flag: always, or by a presence bit; the mark stands lowest in the new mask

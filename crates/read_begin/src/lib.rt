@@ -10,8 +10,7 @@ ghost use Prim.Native.Nat.{_+_, _<_, _≤_};
 ghost use lib.ListN.{length};
 ghost use Rattle.bits.specs.Access.{mostOctets};
 ghost use Rattle.octets.specs.Numbers.{u16};
-ghost use Rattle.rules.specs.Rules.{Obeys, Starts};
-ghost use Rattle.encoding.specs.Rows.{items};
+ghost use Rattle.guard.specs.Readable.{asksAt, Readable, Opened};
 ghost use Rattle.read_steps.specs.Reads.{stateAt};
 ghost use Rattle.parts.specs.Parts.{NoChoice};
 ghost use Rattle.read_begin.specs.Begins.{Begins, Marks, Chooses, Leads, runOf, wholeOf};
@@ -63,8 +62,8 @@ fn begin_counted(
     room: usize,
     cursor: Cursor,
 ) -> Begun
-    requires { ⌜ Obeys (now table) × Starts (now table) at × (u16 (now table) (at + 2) ≡ 4) × (length (now message) ≤ mostOctets) ⌝ }
-    ensures { λ r. ⌜ Begins (now (table .entry)) at (now (message .entry)) room (items (now (table .entry)) at) (stateAt cursor (now (values .entry)) (now (packed .entry))) (now (values .exit)) (now (packed .exit)) r ⌝ }
+    requires { ⌜ Opened (now table) at × (u16 (now table) (at + 2) ≡ 4) × (length (now message) ≤ mostOctets) ⌝ }
+    ensures { λ r. ⌜ Begins (now (table .entry)) at (now (message .entry)) room (asksAt (now (table .entry)) at) (stateAt cursor (now (values .entry)) (now (packed .entry))) (now (values .exit)) (now (packed .exit)) r ⌝ }
 {
     let most = Row::count_at(table, at);
     let row = Row::run_at(table, at);
@@ -86,7 +85,7 @@ fn choose(
     room: usize,
     cursor: Cursor,
 ) -> Chosen
-    requires { ⌜ Obeys (now table) × Starts (now table) at × (u16 (now table) (at + 2) ≡ 6) × (length (now message) ≤ mostOctets) ⌝ }
+    requires { ⌜ Readable (now table) at × (u16 (now table) (at + 2) ≡ 6) × (length (now message) ≤ mostOctets) ⌝ }
     ensures { λ r. ⌜ Chooses (now (table .entry)) at (now (message .entry)) room (stateAt cursor (now (values .entry)) (now (packed .entry))) (now (values .exit)) (now (packed .exit)) r ⌝ }
 {
     let branches = Row::count_at(table, at);
@@ -101,7 +100,7 @@ fn choose(
     }
 }
 
-// The row that the choices from an offset on lead to: the row there, where it is no choice.
+// The row that the choices from an offset on lead to: the row there, where it is no choice. In a state each branch is tested.
 pub fn follow(
     table: &[u8],
     at: usize,
@@ -111,7 +110,7 @@ pub fn follow(
     room: usize,
     cursor: Cursor,
 ) -> Chosen
-    requires { ⌜ Obeys (now table) × Starts (now table) at × (length (now message) ≤ mostOctets) ⌝ }
+    requires { ⌜ Readable (now table) at × (length (now message) ≤ mostOctets) ⌝ }
     ensures { λ r. ⌜ Leads (now (table .entry)) at (now (message .entry)) room (stateAt cursor (now (values .entry)) (now (packed .entry))) (now (values .exit)) (now (packed .exit)) r ⌝ }
 {
     let mut row = at;
@@ -121,6 +120,9 @@ pub fn follow(
         let Chosen::Row(branch, next) = chosen else {
             return chosen;
         };
+        if Row::MOST_TABLE < table.len() && !guard::leads(table, row, branch) {
+            return Chosen::Refused(guard::unreadable(next.place));
+        }
         row = branch;
         here = next;
     }
@@ -164,8 +166,8 @@ fn begin_record(
     room: usize,
     cursor: Cursor,
 ) -> Begun
-    requires { ⌜ Obeys (now table) × Starts (now table) at × (u16 (now table) (at + 2) ≡ 5) × (length (now message) ≤ mostOctets) ⌝ }
-    ensures { λ r. ⌜ Begins (now (table .entry)) at (now (message .entry)) room (items (now (table .entry)) at) (stateAt cursor (now (values .entry)) (now (packed .entry))) (now (values .exit)) (now (packed .exit)) r ⌝ }
+    requires { ⌜ Opened (now table) at × (u16 (now table) (at + 2) ≡ 5) × (length (now message) ≤ mostOctets) ⌝ }
+    ensures { λ r. ⌜ Begins (now (table .entry)) at (now (message .entry)) room (asksAt (now (table .entry)) at) (stateAt cursor (now (values .entry)) (now (packed .entry))) (now (values .exit)) (now (packed .exit)) r ⌝ }
 {
     let fields = Row::count_at(table, at);
     let mut field = 0;
@@ -194,8 +196,8 @@ pub fn begin(
     room: usize,
     cursor: Cursor,
 ) -> Begun
-    requires { ⌜ Obeys (now table) × Starts (now table) at × NoChoice (now table) at × (length (now message) ≤ mostOctets) ⌝ }
-    ensures { λ r. ⌜ Begins (now (table .entry)) at (now (message .entry)) room (items (now (table .entry)) at) (stateAt cursor (now (values .entry)) (now (packed .entry))) (now (values .exit)) (now (packed .exit)) r ⌝ }
+    requires { ⌜ Opened (now table) at × NoChoice (now table) at × (length (now message) ≤ mostOctets) ⌝ }
+    ensures { λ r. ⌜ Begins (now (table .entry)) at (now (message .entry)) room (asksAt (now (table .entry)) at) (stateAt cursor (now (values .entry)) (now (packed .entry))) (now (values .exit)) (now (packed .exit)) r ⌝ }
 {
     let kind = Row::kind_at(table, at);
     match kind {

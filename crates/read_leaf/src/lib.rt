@@ -3,17 +3,14 @@
 use read_steps::Cursor;
 use read_steps::Step;
 use row::Row;
-ghost use mathlib.Core.Bool.{true};
-ghost use mathlib.Core.Path.{_≡_};
 ghost use Prim.Native.Nat.{_+_, _≤_};
 ghost use lib.ListN.{length};
 ghost use Rattle.bits.specs.Access.{mostOctets};
 ghost use Rattle.octets.specs.Numbers.{u16, u32, signed};
-ghost use Rattle.row.specs.Kinds.{isOctets};
+ghost use Rattle.row.specs.Kinds.{leastLength};
 ghost use Rattle.item.specs.Code.{Code};
-ghost use Rattle.rules.specs.Rules.{Obeys, Starts};
 ghost use Rattle.items.specs.Items.{one, times};
-ghost use Rattle.encoding.specs.Rows.{items};
+ghost use Rattle.encoding.specs.Rows.{octetsWithin};
 ghost use Rattle.read_steps.specs.Reads.{Reads, stateAt};
 
 // A number row.
@@ -93,8 +90,8 @@ pub fn octets(
     room: usize,
     cursor: Cursor,
 ) -> Step
-    requires { ⌜ Obeys (now table) × Starts (now table) at × (isOctets (u16 (now table) (at + 2)) ≡ true) × (length (now message) ≤ mostOctets) ⌝ }
-    ensures { λ r. ⌜ Reads (now (message .entry)) room (items (now (table .entry)) at) (stateAt cursor (now (values .entry)) (now (packed .entry))) (now (values .exit)) (now (packed .exit)) r ⌝ }
+    requires { ⌜ (at + 6 ≤ length (now table)) × (length (now message) ≤ mostOctets) ⌝ }
+    ensures { λ r. ⌜ Reads (now (message .entry)) room (octetsWithin (leastLength (u16 (now (table .entry)) (at + 2))) (u16 (now (table .entry)) (at + 4))) (stateAt cursor (now (values .entry)) (now (packed .entry))) (now (values .exit)) (now (packed .exit)) r ⌝ }
 {
     let kind = Row::kind_at(table, at);
     let least = Row::least_length(kind);

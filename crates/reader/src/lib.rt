@@ -1,5 +1,6 @@
-// Reads the items that a row of a passed table asks for from a message, and keeps their values in the slices that are lent.
-// Choices are followed to a row, whose own items come first (read_begin); then the rows that it refers to, each earlier in the table.
+// Reads the items that a row asks for from a message, and keeps their values in the slices that are lent. Choices are followed to a
+// row, whose own items come first (read_begin); then the rows that it refers to, each earlier. The row is one of a table that passed
+// the check, or of a state of any octets, whose rows are tested before they are read (guard): the reader is one for both.
 use read_begin::Begun;
 use read_begin::Chosen;
 use read_steps::Cursor;
@@ -10,11 +11,10 @@ ghost use Prim.Native.Nat.{_+_, _<_, _≤_, _^_};
 ghost use lib.ListN.{length};
 ghost use Rattle.bits.specs.Access.{mostOctets};
 ghost use Rattle.octets.specs.Numbers.{u16};
-ghost use Rattle.rules.specs.Rules.{Obeys, Starts, Earlier};
 ghost use Rattle.items.specs.Items.{times};
-ghost use Rattle.encoding.specs.Rows.{items};
 ghost use Rattle.read_steps.specs.Reads.{Reads, stateAt};
 ghost use Rattle.parts.specs.Parts.{NoChoice, markedFields, fieldIf};
+ghost use Rattle.guard.specs.Readable.{asksAt, asksFrom, Readable, Opened};
 
 // The row at an offset.
 pub fn read_row(
@@ -26,8 +26,8 @@ pub fn read_row(
     room: usize,
     cursor: Cursor,
 ) -> Step
-    requires { ⌜ Obeys (now table) × Starts (now table) at × (length (now message) ≤ mostOctets) ⌝ }
-    ensures { λ r. ⌜ Reads (now (message .entry)) room (items (now (table .entry)) at) (stateAt cursor (now (values .entry)) (now (packed .entry))) (now (values .exit)) (now (packed .exit)) r ⌝ }
+    requires { ⌜ Readable (now table) at × (length (now message) ≤ mostOctets) ⌝ }
+    ensures { λ r. ⌜ Reads (now (message .entry)) room (asksAt (now (table .entry)) at) (stateAt cursor (now (values .entry)) (now (packed .entry))) (now (values .exit)) (now (packed .exit)) r ⌝ }
 {
     let chosen = read_begin::follow(&*table, at, &*message, values, packed, room, cursor);
     match chosen {
@@ -36,7 +36,7 @@ pub fn read_row(
     }
 }
 
-// The row at an offset, which is no choice.
+// The row at an offset, which is no choice. In a state the rows that it refers to are tested.
 fn read_chosen(
     table: &[u8],
     at: usize,
@@ -46,9 +46,12 @@ fn read_chosen(
     room: usize,
     cursor: Cursor,
 ) -> Step
-    requires { ⌜ Obeys (now table) × Starts (now table) at × NoChoice (now table) at × (length (now message) ≤ mostOctets) ⌝ }
-    ensures { λ r. ⌜ Reads (now (message .entry)) room (items (now (table .entry)) at) (stateAt cursor (now (values .entry)) (now (packed .entry))) (now (values .exit)) (now (packed .exit)) r ⌝ }
+    requires { ⌜ Readable (now table) at × NoChoice (now table) at × (length (now message) ≤ mostOctets) ⌝ }
+    ensures { λ r. ⌜ Reads (now (message .entry)) room (asksAt (now (table .entry)) at) (stateAt cursor (now (values .entry)) (now (packed .entry))) (now (values .exit)) (now (packed .exit)) r ⌝ }
 {
+    if Row::MOST_TABLE < table.len() && !guard::opens(table, at) {
+        return Step::Refused(guard::unreadable(cursor.place));
+    }
     let begun = read_begin::begin(&*table, at, &*message, values, packed, room, cursor);
     match begun {
         Begun::Done(next) => Step::Past(next),
@@ -99,8 +102,8 @@ fn read_run(
     room: usize,
     cursor: Cursor,
 ) -> Step
-    requires { ⌜ Obeys (now table) × Starts (now table) at × Earlier (now table) at row × (length (now message) ≤ mostOctets) ⌝ }
-    ensures { λ r. ⌜ Reads (now (message .entry)) room (times count (items (now (table .entry)) row)) (stateAt cursor (now (values .entry)) (now (packed .entry))) (now (values .exit)) (now (packed .exit)) r ⌝ }
+    requires { ⌜ Readable (now table) row × (row < at) × (length (now message) ≤ mostOctets) ⌝ }
+    ensures { λ r. ⌜ Reads (now (message .entry)) room (times count (asksAt (now (table .entry)) row)) (stateAt cursor (now (values .entry)) (now (packed .entry))) (now (values .exit)) (now (packed .exit)) r ⌝ }
 {
     let mut done = 0;
     let mut here = cursor;
@@ -126,8 +129,8 @@ fn read_fields(
     room: usize,
     cursor: Cursor,
 ) -> Step
-    requires { ⌜ Obeys (now table) × Starts (now table) at × (u16 (now table) (at + 2) ≡ 5) × (mask < 2 ^ u16 (now table) (at + 4)) × (length (now message) ≤ mostOctets) ⌝ }
-    ensures { λ r. ⌜ Reads (now (message .entry)) room (markedFields (now (table .entry)) at mask) (stateAt cursor (now (values .entry)) (now (packed .entry))) (now (values .exit)) (now (packed .exit)) r ⌝ }
+    requires { ⌜ Opened (now table) at × (u16 (now table) (at + 2) ≡ 5) × (mask < 2 ^ u16 (now table) (at + 4)) × (length (now message) ≤ mostOctets) ⌝ }
+    ensures { λ r. ⌜ Reads (now (message .entry)) room (markedFields (asksFrom (now (table .entry)) at) (now (table .entry)) at mask) (stateAt cursor (now (values .entry)) (now (packed .entry))) (now (values .exit)) (now (packed .exit)) r ⌝ }
 {
     let fields = Row::count_at(table, at);
     let mut field = 0;
@@ -168,8 +171,8 @@ fn read_field(
     room: usize,
     cursor: Cursor,
 ) -> Step
-    requires { ⌜ Obeys (now table) × Starts (now table) at × Earlier (now table) at row × (length (now message) ≤ mostOctets) ⌝ }
-    ensures { λ r. ⌜ Reads (now (message .entry)) room (fieldIf present (items (now (table .entry)) row)) (stateAt cursor (now (values .entry)) (now (packed .entry))) (now (values .exit)) (now (packed .exit)) r ⌝ }
+    requires { ⌜ Readable (now table) row × (row < at) × (length (now message) ≤ mostOctets) ⌝ }
+    ensures { λ r. ⌜ Reads (now (message .entry)) room (fieldIf present (asksAt (now (table .entry)) row)) (stateAt cursor (now (values .entry)) (now (packed .entry))) (now (values .exit)) (now (packed .exit)) r ⌝ }
 {
     if !present {
         return Step::Past(cursor);

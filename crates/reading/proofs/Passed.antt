@@ -1,13 +1,9 @@
 -- From the check's answer to the verdict, and the outcome under a table that passed.
 -- Assumes nothing.
-use Prim.Native.Nat.{ℕ, _-_, _≤_}
-use mathlib.Core.Bool.{Bool, true, false, cond}
+use Prim.Native.Nat.{ℕ}
 use mathlib.Core.Path.{_≡_, refl, sym, _∙_}
-use mathlib.Core.List.{List, [], _∷_}
+use mathlib.Core.List.{List, []}
 use native.Mathlib.Omega.{arith}
-use lib.Dec.{leb}
-use lib.ListN.{length}
-use Rattle.answer.specs.Numbers.{refusalAt}
 use Rattle.answer.specs.declared.Answer.{Answer}
 use Rattle.answer.specs.declared.Answer.the-variants.{Accepted, Refused}
 use Rattle.answer.specs.declared.Counts.{Counts}
@@ -15,10 +11,8 @@ use Rattle.answer.specs.declared.Refusal.{Refusal}
 use Rattle.rules.specs.Rules.{Obeys}
 use Rattle.table.specs.Verdict.{Verdict, passed, broken, verdict, checked}
 use Rattle.table.proofs.Decides.{passes-exactly}
-use Rattle.encoding.specs.Rows.{asks}
-use Rattle.items.specs.Reading.{ReadOutcome, accept, refuse, decode, readAnswer, readValues}
+use Rattle.items.specs.Reading.{readAnswer, readValues}
 use Rattle.encoding.specs.Reading.{onPassed, readOutcome}
-use Rattle.items.proofs.Messages.{decode-fits}
 use Rattle.reading.specs.Outcome.{messageOutcome}
 
 -- ── the verdict ──
@@ -44,18 +38,3 @@ broken-outcome t s room r refusal e a = go (verdict t) (sym e ∙ a) e
     go : (v : Verdict) → checked v ≡ Refused refusal → r ≡ checked v → (r ≡ readAnswer (onPassed v (messageOutcome t s room))) × (readValues (onPassed v (messageOutcome t s room)) ≡ [])
     go passed q e = let z : _≡_ {A = ℕ} 0 1 = cc in absurd (omega arith)
     go (broken by) q e = (e, refl)
-
--- no octets
-pub empty-outcome : (t s : List ℕ) (room : ℕ) → length s ≡ 0 → messageOutcome t s room ≡ refuse (refusalAt 2 0)
-empty-outcome t [] room h = refl
-empty-outcome t (o ∷ os) room h = absurd (omega arith)
-
--- ── room ──
-
-pub outcome-fits : (t s : List ℕ) (room : ℕ) → length (readValues (messageOutcome t s room)) ≤ room
-outcome-fits t s room = go (leb (length s) 65535) (decode (asks t) s room) refl
-  where
-    go : (b : Bool) (x : ReadOutcome) → decode (asks t) s room ≡ x → length (readValues (cond b x (refuse (refusalAt 13 0)))) ≤ room
-    go false x q = omega arith
-    go true (refuse refusal) q = omega arith
-    go true (accept vs n) q = decode-fits (asks t) s room vs n q

@@ -12,9 +12,11 @@ use Rattle.items.specs.Slices.{filled}
 use Rattle.values.specs.Values.{listOctets}
 use Rattle.rules.specs.Rules.{Obeys}
 use Rattle.table.proofs.Decides.{passes-exactly}
+use Rattle.encoding.specs.Rows.{asks}
+use Rattle.items.proofs.Messages.{message-fits}
 use Rattle.read_steps.specs.Ends.{keptCount}
 use Rattle.reading.specs.Outcome.{messageOutcome}
-use Rattle.reading.proofs.Passed.{accepted-obeys, passed-outcome, broken-outcome, outcome-fits}
+use Rattle.reading.proofs.Passed.{accepted-obeys, passed-outcome, broken-outcome}
 use Rattle.read_steps.proofs.Settled.{count-is, settled-packed}
 use borrow.Author.Needs.{needs}
 use Rattle.codec.proofs.read_packed.Statement.{statement}
@@ -71,7 +73,7 @@ mul-clear-octets c =
     let r = c .before .before .before .before .before .read-passed in
     let n = length (now (a .packed)) / 8 in
     let o = messageOutcome (now (a .table)) (now (a .message)) n in
-    let k : c .before .kept-count .result ≡ length (readValues o) = c .before .kept-count .ensures ∙ ap keptCount (r .ensures .0) ∙ count-is o in omega (arith, outcome-fits (now (a .table)) (now (a .message)) n)
+    let k : c .before .kept-count .result ≡ length (readValues o) = c .before .kept-count .ensures ∙ ap keptCount (r .ensures .0) ∙ count-is o in omega (arith, message-fits (asks (now (a .table))) (now (a .message)) n)
 
 clear-octets-requires-2 : tie.Need-clear-octets-requires-2
 clear-octets-requires-2 c κs =
@@ -79,7 +81,7 @@ clear-octets-requires-2 c κs =
     let r = c .before .before .before .before .before .read-passed in
     let n = length (now (a .packed)) / 8 in
     let o = messageOutcome (now (a .table)) (now (a .message)) n in
-    let k : c .before .kept-count .result ≡ length (readValues o) = c .before .kept-count .ensures ∙ ap keptCount (r .ensures .0) ∙ count-is o in omega (arith, outcome-fits (now (a .table)) (now (a .message)) n, r .kept .1 .1 .1 .1 .0)
+    let k : c .before .kept-count .result ≡ length (readValues o) = c .before .kept-count .ensures ∙ ap keptCount (r .ensures .0) ∙ count-is o in omega (arith, message-fits (asks (now (a .table))) (now (a .message)) n, r .kept .1 .1 .1 .1 .0)
 
 same-length-2 : tie.Need-same-length-2
 same-length-2 c = search needs
@@ -94,7 +96,7 @@ returns-2 c =
     let h = accepted-obeys (now (a .table)) _ _ (c .before .before .before .before .before .before .before .before .before .before .before .before .before .before .check .ensures) (c .before .before .before .before .before .before .before .before .before .before .before .before .enum-told .given .1) in
     let k8 : c .before .before .before .before .kept-count .result * 8 ≡ 8 * length (readValues o) = omega arith in
     rw (passed-outcome (now (a .table)) (now (a .message)) n h)
-    (r .ensures .0, c .before .before .clear-octets2 .ensures ∙ rw k8 (settled-packed o (now (a .packed)) _ (omega (arith, outcome-fits (now (a .table)) (now (a .message)) n)) (r .kept .1 .1 .1 .1 .0) (r .ensures .2)))
+    (r .ensures .0, c .before .before .clear-octets2 .ensures ∙ rw k8 (settled-packed o (now (a .packed)) _ (omega (arith, message-fits (asks (now (a .table))) (now (a .message)) n)) (r .kept .1 .1 .1 .1 .0) (r .ensures .2)))
 
 pub read-packed-spec : {M : Type 1} → statement M
 read-packed-spec =

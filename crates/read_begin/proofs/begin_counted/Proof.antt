@@ -1,38 +1,43 @@
 -- `read_begin::begin_counted` meets its contract. A length, read and kept, leaves that many items of the row referred to.
 -- Assumes nothing.
-use Prim.Native.Nat.{_+_}
-use mathlib.Core.Path.{_≡_, ap}
+use Prim.Native.Nat.{ℕ, _+_}
+use mathlib.Core.Path.{_≡_, sym, ap, _∙_}
 use native.Mathlib.Omega.{arith}
 use borrow.Author.Needs.{needs}
 use denote.Ref.{now}
 use Rattle.octets.specs.Numbers.{u16}
 use Rattle.item.specs.Code.{lengthWithin, natural}
-use Rattle.table.proofs.Obeyed.{earlier-starts, row-starts-inside, counted-row}
+use Rattle.row.proofs.Fits.{counted-fits}
 use Rattle.items.specs.Items.{ask, times}
-use Rattle.encoding.specs.Rows.{items}
-use Rattle.encoding.proofs.RowItems.{items-counted}
+use Rattle.encoding.proofs.RowItems.{asks-counted}
+use Rattle.guard.specs.Readable.{asksAt, asksFrom}
+use Rattle.guard.proofs.Readable.{Reached, asks-row}
 use Rattle.read_steps.specs.Reads.{stateAt}
 use Rattle.read_steps.proofs.Keeping.{Keeping, keeping, first-refused, first-kept}
-use Rattle.read_begin.proofs.Beginnings.{begins-run}
+use Rattle.read_begin.proofs.Beginnings.{begins-run, counted-reached}
 use Rattle.read_begin.proofs.begin_counted.Statement.{statement}
 use Rattle.read_begin.proofs.begin_counted.Tie as tie
 
 -- what the row asks for
 row-items : (s : tie.Start) → let t = now (s .args .table) in let at = s .args .at in
-    items t at ≡ ask (lengthWithin 0 (u16 t (at + 4))) (λ v. times (natural v) (items t (u16 t (at + 6))))
+    asksAt t at ≡ ask (lengthWithin 0 (u16 t (at + 4))) (λ v. times (natural v) (asksFrom t at (u16 t (at + 6))))
 row-items s =
-    let row = counted-row (s .pre .0) (s .pre .1) (s .pre .2) in
-    items-counted (now (s .args .table)) (s .args .at) (u16 (now (s .args .table)) (s .args .at + 4)) (u16 (now (s .args .table)) (s .args .at + 6)) (row .0) (row .2 .1)
+    let t = now (s .args .table) in
+    asks-row (s .pre .0) ∙ asks-counted (asksFrom t (s .args .at)) t (s .args .at) _ _ (counted-fits (s .pre .0 .readable .row) (s .pre .1) .0)
+
+-- the row that it refers to
+reached : (s : tie.Start) → Reached (now (s .args .table)) (s .args .at) (u16 (now (s .args .table)) (s .args .at + 6))
+reached s = counted-reached (s .pre .0) (s .pre .1) (λ e. let six : _≡_ {A = ℕ} 4 6 = sym (s .pre .1) ∙ e in absurd (omega arith))
 
 count-at-requires : tie.Need-count-at-requires
 count-at-requires c κs =
     let s = c .before .before .before in
-    omega (arith, counted-row (s .pre .0) (s .pre .1) (s .pre .2) .1)
+    omega (arith, counted-fits (s .pre .0 .readable .row) (s .pre .1) .1)
 
 run-at-requires : tie.Need-run-at-requires
 run-at-requires c κs =
     let s = c .before .before .before .before in
-    counted-row (s .pre .0) (s .pre .1) (s .pre .2) .1
+    counted-fits (s .pre .0 .readable .row) (s .pre .1) .1
 
 -- the length, kept
 length-kept : (c : tie.After-kept) → let a = c .before .before .before .before .before .before .before .before .before .args in
@@ -50,8 +55,7 @@ run-of-requires : tie.Need-run-of-requires
 run-of-requires c κs =
     let run = c .before .before .before .before .before .before .before .before .before .before .before in
     let s = run .before .before .before .before .before in
-    let row = counted-row (s .pre .0) (s .pre .1) (s .pre .2) in
-    rw (run .run-at .ensures .0) (row-starts-inside (s .pre .0) (earlier-starts (s .pre .1) (row .2)) .0)
+    rw (run .run-at .ensures .0) (reached s .readable .row .start)
 
 returns-2 : tie.Need-returns-2
 returns-2 c =
@@ -59,7 +63,7 @@ returns-2 c =
     let kept = counted .before .before .before .before .before .before .before in
     let s = kept .before .before .before .before .before .before .before .before .before in
     rw (c .run-of .ensures, counted .count-of .ensures, kept .before .before .before .before .run-at .ensures .0)
-    (begins-run (s .pre .0) (s .args .at) _ _ (s .pre .1 .1) (counted-row (s .pre .0) (s .pre .1) (s .pre .2) .2)
+    (begins-run (s .args .at) _ _ (reached s)
     (first-kept _ _ (row-items s) (length-kept kept) (counted .before .before .step .given .1)))
 
 pub begin-counted-spec : {M : Type 1} → statement M

@@ -2,14 +2,15 @@
 -- left, with the marks so far.
 -- Assumes nothing.
 use Prim.Native.Nat.{ℕ, _+_, _-_, _*_, _^_, _≤_, _<_}
-use mathlib.Core.Path.{_≡_, refl, subst}
+use mathlib.Core.Path.{_≡_, refl, subst, _∙_}
 use native.Mathlib.Omega.{arith}
 use borrow.Author.Needs.{needs}
 use denote.Ref.{now}
 use lib.ListN.{length}
 use Rattle.octets.specs.Numbers.{u16}
-use Rattle.table.proofs.Obeyed.{RecordRow, record-row}
-use Rattle.encoding.specs.Rows.{items}
+use Rattle.row.proofs.Fits.{RecordFits, record-fits}
+use Rattle.guard.specs.Readable.{asksAt, asksFrom}
+use Rattle.guard.proofs.Readable.{asks-row}
 use Rattle.parts.proofs.Records.{leftAfter, record-start, record-end, mask-lt, marked-lt}
 use Rattle.read_steps.specs.Reads.{stateAt, Continues}
 use Rattle.read_steps.proofs.Flow.{continues-trans, continues-same}
@@ -20,14 +21,14 @@ use Rattle.read_begin.proofs.begin_record.Tie as tie
 abbrev Inv-loop : tie.InvT-loop
 Inv-loop table at message values₀ packed₀ room fields field₀ mask₀ here₀ values packed field mask here =
     (field ≤ fields) × (length values ≡ length values₀) × (length packed ≡ length packed₀) × (mask < 2 ^ field)
-    × Continues message room (items table at) (stateAt here₀ values₀ packed₀) (leftAfter table at field mask) (stateAt here values packed)
+    × Continues message room (asksAt table at) (stateAt here₀ values₀ packed₀) (leftAfter (asksFrom table at) table at field mask) (stateAt here values packed)
 
 abbrev μ-loop : tie.MeasureT-loop
 μ-loop table at message values₀ packed₀ room fields field₀ mask₀ here₀ values packed field mask here = fields - field
 
 -- the row, and where its flag stands that the loop has come to
-row-at : (s : tie.Start Inv-loop μ-loop) → RecordRow (s .pre .0) (s .pre .1)
-row-at s = record-row (s .pre .0) (s .pre .1) (s .pre .2)
+row-at : (s : tie.Start Inv-loop μ-loop) → RecordFits (s .pre .0 .readable .row)
+row-at s = record-fits (s .pre .0 .readable .row) (s .pre .1)
 
 in-row : (c : tie.In-loop Inv-loop μ-loop) → let s = c .before .before .before .before .before .before in
     (c .before .loop .field < u16 (now (s .args .table)) (s .args .at + 4)) × (s .args .at + 10 + 4 * c .before .loop .field ≤ length (now (s .args .table)))
@@ -41,7 +42,7 @@ count-at-requires c κs = omega (arith, row-at (c .before .before .before) .insi
 loop-holds : tie.Need-loop-holds Inv-loop μ-loop
 loop-holds c =
     let s = c .before .before .before .before in
-    (omega arith, refl, refl, omega arith, continues-same (record-start (s .pre .0) (s .pre .1) (s .pre .2)))
+    (omega arith, refl, refl, omega arith, continues-same (asks-row (s .pre .0) ∙ record-start (asksFrom (now (s .args .table)) (s .args .at)) (now (s .args .table)) (s .args .at) (row-at s .is)))
 
 flag-at-requires : tie.Need-flag-at-requires Inv-loop μ-loop
 flag-at-requires c κs = in-row c .1
@@ -82,9 +83,9 @@ returns-2 c =
     let s = c .before .before .before .before .before .before in
     let loop = c .before .loop in
     let e : loop .field ≡ u16 (now (s .args .table)) (s .args .at + 4) = omega (arith, c .before .before .count-at .ensures .0) in (
-      s .pre .2,
+      s .pre .1,
       subst (λ (n : ℕ). loop .mask < 2 ^ n) e (loop .inv .3),
-      continues-trans (loop .inv .4) (continues-same (record-end (s .pre .0) (s .pre .1) (s .pre .2) (loop .field) (loop .mask) e)),
+      continues-trans (loop .inv .4) (continues-same (record-end (asksFrom (now (s .args .table)) (s .args .at)) (now (s .args .table)) (s .args .at) (loop .field) (loop .mask) e)),
     )
 
 pub begin-record-spec : {M : Type 1} → statement M

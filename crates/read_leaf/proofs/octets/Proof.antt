@@ -1,15 +1,17 @@
 -- `read_leaf::octets` meets its contract. A length, read and kept; then the octets.
 -- Assumes nothing.
-use mathlib.Core.Path.{_≡_}
+use Prim.Native.Nat.{_+_}
+use mathlib.Core.Path.{_≡_, refl}
 use native.Mathlib.Omega.{arith}
 use borrow.Author.Needs.{needs}
 use denote.Ref.{now}
 use lib.IntN.{pos}
 use Rattle.item.specs.Code.{number, lengthWithin, natural}
-use Rattle.table.proofs.Obeyed.{octets-row}
+use Rattle.octets.specs.Numbers.{u16}
+use Rattle.row.specs.Kinds.{leastLength}
 use Rattle.items.specs.Items.{ask, one, times}
-use Rattle.encoding.specs.Rows.{items}
-use Rattle.encoding.proofs.RowItems.{octetsLength, items-octets}
+use Rattle.encoding.specs.Rows.{octetsWithin}
+use Rattle.encoding.proofs.RowItems.{octetsLength}
 use Rattle.read_steps.specs.Reads.{stateAt}
 use Rattle.read_steps.proofs.Keeping.{Keeping, keeping, first-refused, first-kept}
 use Rattle.read_leaf.proofs.octets.Statement.{statement}
@@ -17,18 +19,19 @@ use Rattle.read_leaf.proofs.octets.Tie as tie
 
 -- what the row asks for
 row-items : (s : tie.Start) → let t = now (s .args .table) in let at = s .args .at in
-    items t at ≡ ask (octetsLength t at) (λ v. times (natural v) (one (number (pos 0) 255)))
-row-items s = items-octets (now (s .args .table)) (s .args .at) (s .pre .0) (s .pre .1) (s .pre .2)
+    octetsWithin (leastLength (u16 t (at + 2))) (u16 t (at + 4)) ≡ ask (octetsLength t at) (λ v. times (natural v) (one (number (pos 0) 255)))
+unfolding octetsLength
+row-items s = refl
 
 kind-at-requires : tie.Need-kind-at-requires
 kind-at-requires c κs =
     let s = c .before .before .before in
-    omega (arith, octets-row (s .pre .0) (s .pre .1) (s .pre .2) .1)
+    omega (arith, s .pre .0)
 
 count-at-requires : tie.Need-count-at-requires
 count-at-requires c κs =
     let s = c .before .before .before .before .before in
-    octets-row (s .pre .0) (s .pre .1) (s .pre .2) .1
+    s .pre .0
 
 -- the code that is read, as the row has it
 length-asked : (c : tie.After-count-at) → let a = c .before .before .before .before .before .before .args in

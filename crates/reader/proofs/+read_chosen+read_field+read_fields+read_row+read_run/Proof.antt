@@ -4,22 +4,25 @@
 -- Assumes nothing.
 use Prim.Native.Nat.{ℕ, suc, _+_, _-_, _*_, _≤_, _<_}
 use mathlib.Core.Bool.{false}
+use mathlib.Core.Logic.{⊎-elim}
 use mathlib.Core.Path.{_≡_, refl, sym, ap, _∙_}
 use native.Mathlib.Omega.{arith}
 use denote.Ref.{now}
 use lib.ListN.{length, getD}
 use Rattle.octets.specs.Numbers.{u16}
+use Rattle.octets.proofs.Numbers.{length-u16s, getD-u16s}
 use Rattle.bits.specs.Bits.{bitsOf}
 use Rattle.row.proofs.Bools.{inside-within}
-use Rattle.rules.specs.Rules.{Starts}
-use Rattle.table.proofs.Obeyed.{earlier-starts, row-starts-inside, number-row, variable-row, record-row}
-use Rattle.items.specs.Items.{_then_, times}
-use Rattle.encoding.specs.Rows.{items}
-use Rattle.encoding.proofs.RowItems.{items-number, items-variable}
+use Rattle.row.proofs.Fits.{number-fits, record-fits, octets-fits}
+use Rattle.rules.specs.Rules.{references}
+use Rattle.items.specs.Items.{Items, _then_, times}
+use Rattle.guard.specs.Readable.{asksAt, asksFrom, Opened}
+use Rattle.guard.proofs.Readable.{Reached, asks-never, number-asks, variable-asks, octets-asks, reached-opened}
 use Rattle.read_steps.specs.Reads.{stateAt, Continues}
 use Rattle.parts.specs.Parts.{markedFields, fieldIf}
 use Rattle.read_steps.proofs.Flow.{continues-trans, continues-same, continues-end, continues-part, refused-part, reads-nothing}
 use Rattle.items.proofs.Runs.{times-none, times-more}
+use Rattle.read_begin.proofs.Beginnings.{never-reads}
 use Rattle.parts.proofs.Records.{fieldsFrom, fields-start, fields-end, fields-next}
 use borrow.Author.Needs.{needs}
 use borrow.Author.Tests.{not-true, not-false}
@@ -50,6 +53,8 @@ use Rattle.read_leaf.proofs.variable.Reads as variable-reads
 use Rattle.read_leaf.proofs.octets.Reads as octets-reads
 use Rattle.read_begin.proofs.follow.Reads as follow-reads
 use Rattle.read_begin.proofs.begin.Reads as begin-reads
+use Rattle.guard.proofs.opens.Reads as opens-reads
+use Rattle.guard.proofs.unreadable.Reads as unreadable-reads
 use Rattle.parts.proofs.is_marked.Reads as is-marked-reads
 use Rattle.reader.proofs.+read_chosen+read_field+read_fields+read_row+read_run.{statement}
 use Rattle.reader.proofs.+read_chosen+read_field+read_fields+read_row+read_run.Tie.{close}
@@ -107,7 +112,7 @@ read-run-below t =
     and 4 read-run-kinds.ps (falls 4 read-run-kinds.ps _<_ μ-read-run t) read-run.Pre
 
 abbrev read-chosen-known : ℕ → read-chosen-lts.Claims
-read-chosen-known t = (begin-reads.Asked, begin-reads.Learnt, read-run-below t, read-run.Post, numbers-reads.Asked, numbers-reads.Learnt, read-fields-below t, read-fields.Post)
+read-chosen-known t = (opens-reads.Asked, opens-reads.Learnt, unreadable-reads.Asked, unreadable-reads.Learnt, begin-reads.Asked, begin-reads.Learnt, read-run-below t, read-run.Post, numbers-reads.Asked, numbers-reads.Learnt, read-fields-below t, read-fields.Post)
 
 abbrev read-field-known : ℕ → read-field-lts.Claims
 read-field-known t = (kind-at-reads.Asked, kind-at-reads.Learnt, number-reads.Asked, number-reads.Learnt, variable-reads.Asked, variable-reads.Learnt, octets-reads.Asked, octets-reads.Learnt, read-row-below t, read-row.Post)
@@ -126,50 +131,49 @@ read-run-known t = (read-row-below t, read-row.Post)
 read-field-returns : (t : ℕ) → read-field-lts.Need-returns (read-field-known t) (read-field-at t) read-field.Post
 read-field-returns t c = rw (not-true (c .before .before .before .before .args .present) (c .if1 .taken)) reads-nothing
 
--- the field's row
-field-starts : (t : ℕ) (c : read-field-lts.Start (read-field-known t) (read-field-at t) read-field.Post) → Starts (now (c .args .table)) (c .args .row)
-field-starts t c = earlier-starts (c .pre .1 .1) (c .pre .1 .2)
-
 read-field-kind-at-requires : (t : ℕ) → read-field-lts.Need-kind-at-requires (read-field-known t) (read-field-at t) read-field.Post
 read-field-kind-at-requires t c κs =
     let s = c .before .before .before .before in
-    row-starts-inside (s .pre .1 .0) (field-starts t s) .0
+    s .pre .1 .0 .row .start
 
 read-field-number-requires : (t : ℕ) → read-field-lts.Need-number-requires (read-field-known t) (read-field-at t) read-field.Post
 read-field-number-requires t c κs =
     let s = c .before .before .before .before .before .before .before .before in
-    (number-row (s .pre .1 .0) (field-starts t s) (sym (c .before .before .before .kind-at .ensures .0) ∙ c .before .before .match .keys1) .1, s .pre .1 .3)
+    (number-fits (s .pre .1 .0 .row) (sym (c .before .before .before .kind-at .ensures .0) ∙ c .before .before .match .keys1) .1, s .pre .1 .2)
 
 read-field-octets-requires : (t : ℕ) → read-field-lts.Need-octets-requires (read-field-known t) (read-field-at t) read-field.Post
 read-field-octets-requires t c κs =
     let s = c .before .before .before .before .before .before .before .before .before .before in
     let kind = c .before .before .before .before .before .kind-at in
     let octets = inside-within 7 8 (kind .result) (omega (arith, c .before .before .before .if2 .left)) (omega (arith, c .before .before .if3 .taken)) in
-    (s .pre .1 .0, field-starts t s, rw (kind .ensures .0) at octets, s .pre .1 .3)
+    (octets-fits (s .pre .1 .0 .row) (rw (kind .ensures .0) at octets) .1, s .pre .1 .2)
 
 read-field-read-row-requires : (t : ℕ) → read-field-lts.Need-read-row-requires (read-field-known t) (read-field-at t) read-field.Post
 read-field-read-row-requires t c κs =
     let s = c .before .before .before .before .before .before .before .before .before in
-    (omega (arith, s .pre .0, s .pre .1 .2 .1), (s .pre .1 .0, field-starts t s, s .pre .1 .3))
+    (omega (arith, s .pre .0, s .pre .1 .1), (s .pre .1 .0, s .pre .1 .2))
 
 read-field-returns-2 : (t : ℕ) → read-field-lts.Need-returns-2 (read-field-known t) (read-field-at t) read-field.Post
 read-field-returns-2 t c =
     let tested = c .before .before .before .before .before .before .before .before in
     let s = tested .before .before .before .before in
     let k = sym (c .before .before .before .before .before .before .before .kind-at .ensures .0) ∙ c .before .before .before .before .before .before .match .keys1 in
-    rw (not-false (s .args .present) (tested .if1 .left), items-number (now (s .args .table)) (s .args .row) _ _ (number-row (s .pre .1 .0) (field-starts t s) k .0)) (c .before .before .before .number .ensures)
+    rw (not-false (s .args .present) (tested .if1 .left), number-asks (s .pre .1 .0) k) (c .before .before .before .number .ensures)
 
 read-field-returns-3 : (t : ℕ) → read-field-lts.Need-returns-3 (read-field-known t) (read-field-at t) read-field.Post
 read-field-returns-3 t c =
     let tested = c .before .before .before .before .before .before .before .before in
     let s = tested .before .before .before .before in
     let k = sym (c .before .before .before .before .before .before .before .kind-at .ensures .0) ∙ c .before .before .before .before .before .before .match .keys2 in
-    rw (not-false (s .args .present) (tested .if1 .left), items-variable (now (s .args .table)) (s .args .row) (variable-row (s .pre .1 .0) (field-starts t s) k)) (c .before .before .before .variable .ensures)
+    rw (not-false (s .args .present) (tested .if1 .left), variable-asks (s .pre .1 .0) k) (c .before .before .before .variable .ensures)
 
 read-field-returns-4 : (t : ℕ) → read-field-lts.Need-returns-4 (read-field-known t) (read-field-at t) read-field.Post
 read-field-returns-4 t c =
     let tested = c .before .before .before .before .before .before .before .before .before .before in
-    rw (not-false (tested .before .before .before .before .args .present) (tested .if1 .left)) (c .before .before .before .octets .ensures)
+    let s = tested .before .before .before .before in
+    let kind = c .before .before .before .before .before .before .before .before .before .kind-at in
+    let octets = inside-within 7 8 (kind .result) (omega (arith, c .before .before .before .before .before .before .before .if2 .left)) (omega (arith, c .before .before .before .before .before .before .if3 .taken)) in
+    rw (not-false (s .args .present) (tested .if1 .left), octets-asks (s .pre .1 .0) (rw (kind .ensures .0) at octets)) (c .before .before .before .octets .ensures)
 
 read-field-returns-5 : (t : ℕ) → read-field-lts.Need-returns-5 (read-field-known t) (read-field-at t) read-field.Post
 read-field-returns-5 t c =
@@ -181,7 +185,7 @@ read-field-returns-5 t c =
 abbrev read-fields-Inv-loop : read-fields-lts.InvT-loop
 read-fields-Inv-loop table at mask message values₀ packed₀ room fields field₀ here₀ values packed field here =
     (field ≤ fields) × (length values ≡ length values₀) × (length packed ≡ length packed₀)
-    × Continues message room (markedFields table at mask) (stateAt here₀ values₀ packed₀) (fieldsFrom table at mask field) (stateAt here values packed)
+    × Continues message room (markedFields (asksFrom table at) table at mask) (stateAt here₀ values₀ packed₀) (fieldsFrom (asksFrom table at) table at mask field) (stateAt here values packed)
 
 abbrev read-fields-μ-loop : read-fields-lts.MeasureT-loop
 read-fields-μ-loop table at mask message values₀ packed₀ room fields field₀ here₀ values packed field here = fields - field
@@ -189,19 +193,19 @@ read-fields-μ-loop table at mask message values₀ packed₀ room fields field�
 read-fields-count-at-requires : (t : ℕ) → read-fields-lts.Need-count-at-requires (read-fields-known t) (read-fields-at t) read-fields.Post read-fields-Inv-loop read-fields-μ-loop
 read-fields-count-at-requires t c κs =
     let s = c .before .before .before in
-    omega (arith, record-row (s .pre .1 .0) (s .pre .1 .1) (s .pre .1 .2) .inside)
+    omega (arith, record-fits (s .pre .1 .0 .readable .row) (s .pre .1 .1) .inside)
 
 read-fields-loop-holds : (t : ℕ) → read-fields-lts.Need-loop-holds (read-fields-known t) (read-fields-at t) read-fields.Post read-fields-Inv-loop read-fields-μ-loop
 read-fields-loop-holds t c =
     let a = c .before .before .before .before .args in
-    (omega arith, refl, refl, continues-same (fields-start (now (a .table)) (a .at) (a .mask)))
+    (omega arith, refl, refl, continues-same (fields-start (asksFrom (now (a .table)) (a .at)) (now (a .table)) (a .at) (a .mask)))
 
 -- where the field stands that the loop has come to
 in-row : (t : ℕ) (c : read-fields-lts.In-loop (read-fields-known t) (read-fields-at t) read-fields.Post read-fields-Inv-loop read-fields-μ-loop) → let s = c .before .before .before .before .before .before in
     (c .before .loop .field < u16 (now (s .args .table)) (s .args .at + 4)) × (s .args .at + 10 + 4 * c .before .loop .field ≤ length (now (s .args .table)))
 in-row t c =
     let s = c .before .before .before .before .before .before in
-    let row = record-row (s .pre .1 .0) (s .pre .1 .1) (s .pre .1 .2) in
+    let row = record-fits (s .pre .1 .0 .readable .row) (s .pre .1 .1) in
     let e = c .before .before .count-at .ensures .0 in
     (omega (arith, c .loop-test .taken), omega (arith, c .loop-test .taken, row .inside))
 
@@ -211,30 +215,44 @@ read-fields-field-at-requires t c κs = in-row t c .1
 read-fields-is-marked-requires : (t : ℕ) → read-fields-lts.Need-is-marked-requires (read-fields-known t) (read-fields-at t) read-fields.Post read-fields-Inv-loop read-fields-μ-loop
 read-fields-is-marked-requires t c κs =
     let s = c .before .before .before .before .before .before .before in
-    let row = record-row (s .pre .1 .0) (s .pre .1 .1) (s .pre .1 .2) in
+    let row = record-fits (s .pre .1 .0 .readable .row) (s .pre .1 .1) in
     let e = c .before .before .before .count-at .ensures .0 in
-    (omega (arith, c .before .loop-test .taken), omega (arith, row .most), rw e (s .pre .1 .3))
+    (omega (arith, c .before .loop-test .taken), omega (arith, row .most), rw e (s .pre .1 .2))
+
+-- its row
+reached : (t : ℕ) (c : read-fields-lts.After-field-at (read-fields-known t) (read-fields-at t) read-fields.Post read-fields-Inv-loop read-fields-μ-loop) → let s = c .before .before .before .before .before .before .before in
+    Reached (now (s .args .table)) (s .args .at) (c .field-at .result)
+unfolding references
+reached t c =
+    let test = c .before in
+    let s = test .before .before .before .before .before .before in
+    let table = now (s .args .table) in
+    let row = record-fits (s .pre .1 .0 .readable .row) (s .pre .1 .1) in
+    let i = test .before .loop .field in
+    let n = u16 table (s .args .at + 4) in
+    reached-opened (s .pre .1 .0) (λ e. let six : _≡_ {A = ℕ} 5 6 = sym (s .pre .1 .1) ∙ e in absurd (omega arith))
+    (rw (row .is) (i, rw (length-u16s table 4 (s .args .at + 6) n) (in-row t test .0), c .field-at .ensures .0 ∙ sym (getD-u16s table 4 (s .args .at + 6) n i 0 (in-row t test .0))))
 
 read-fields-read-field-requires : (t : ℕ) → read-fields-lts.Need-read-field-requires (read-fields-known t) (read-fields-at t) read-fields.Post read-fields-Inv-loop read-fields-μ-loop
 read-fields-read-field-requires t c κs =
     let test = c .before .before .before .before in
     let s = test .before .before .before .before .before .before in
-    let row = record-row (s .pre .1 .0) (s .pre .1 .1) (s .pre .1 .2) in (
-      omega (arith, s .pre .0),
-      (s .pre .1 .0, s .pre .1 .1, rw (c .before .before .before .field-at .ensures .0) (row .field (test .before .loop .field) (in-row t test .0)), s .pre .1 .4),
-    )
+    let on = reached t (c .before .before .before) in
+    (omega (arith, s .pre .0), (on .readable, on .below, s .pre .1 .3))
 
 -- what is left begins with that field
 next-field : (t : ℕ) (c : read-fields-lts.After-is-marked (read-fields-known t) (read-fields-at t) read-fields.Post read-fields-Inv-loop read-fields-μ-loop) → let s = c .before .before .before .before .before .before .before .before in
-    fieldsFrom (now (s .args .table)) (s .args .at) (s .args .mask) (c .before .before .before .loop .field)
-    ≡ fieldIf (c .is-marked .result) (items (now (s .args .table)) (c .before .field-at .result))
-    then fieldsFrom (now (s .args .table)) (s .args .at) (s .args .mask) (c .before .before .before .loop .field + 1)
+    fieldsFrom (asksFrom (now (s .args .table)) (s .args .at)) (now (s .args .table)) (s .args .at) (s .args .mask) (c .before .before .before .loop .field)
+    ≡ fieldIf (c .is-marked .result) (asksAt (now (s .args .table)) (c .before .field-at .result))
+    then fieldsFrom (asksFrom (now (s .args .table)) (s .args .at)) (now (s .args .table)) (s .args .at) (s .args .mask) (c .before .before .before .loop .field + 1)
 next-field t c =
     let test = c .before .before in
     let a = test .before .before .before .before .before .before .args in
     let field = test .before .loop .field in
-    fields-next (now (a .table)) (a .at) (a .mask) field _ _ (in-row t test .0) (c .before .field-at .ensures .0)
+    let g = asksFrom (now (a .table)) (a .at) in
+    fields-next g (now (a .table)) (a .at) (a .mask) field _ _ (in-row t test .0) (c .before .field-at .ensures .0)
     (c .is-marked .ensures ∙ ap (λ (n : ℕ). getD (bitsOf n (a .mask)) field false) (test .before .before .count-at .ensures .0))
+    ∙ ap (λ (p : Items). fieldIf (c .is-marked .result) p then fieldsFrom g (now (a .table)) (a .at) (a .mask) (field + 1)) (reached t (c .before) .same)
 
 read-fields-returns : (t : ℕ) → read-fields-lts.Need-returns (read-fields-known t) (read-fields-at t) read-fields.Post read-fields-Inv-loop read-fields-μ-loop
 read-fields-returns t c =
@@ -258,7 +276,7 @@ read-fields-returns-2 t c =
     let a = c .before .before .before .before .before .before .args in
     let loop = c .before .loop in
     let e : loop .field ≡ u16 (now (a .table)) (a .at + 4) = omega (arith, c .before .before .count-at .ensures .0) in
-    continues-end (continues-trans (loop .inv .3) (continues-same (fields-end (now (a .table)) (a .at) (a .mask) (loop .field) e)))
+    continues-end (continues-trans (loop .inv .3) (continues-same (fields-end (asksFrom (now (a .table)) (a .at)) (now (a .table)) (a .at) (a .mask) (loop .field) e)))
 
 -- ── a row ──
 
@@ -269,7 +287,7 @@ read-row-read-chosen-requires : (t : ℕ) → read-row-lts.Need-read-chosen-requ
 read-row-read-chosen-requires t c κs =
     let s = c .before .before .before .before .before .before .before .before .before .before .before .before .before .before in
     let f = rw (c .before .before .before .chosen .given .1) at (c .before .before .before .before .before .before .before .before .follow .ensures) in
-    (omega (arith, s .pre .0, f .1), (s .pre .1 .0, f .0, f .2, s .pre .1 .2))
+    (omega (arith, s .pre .0, f .1), (f .0, f .2, s .pre .1 .1))
 
 read-row-returns : (t : ℕ) → read-row-lts.Need-returns (read-row-known t) (read-row-at t) read-row.Post
 read-row-returns t c =
@@ -281,56 +299,71 @@ read-row-returns-2 t c = rw (c .before .chosen2 .given .1) at (c .before .before
 
 -- ── a row that is no choice ──
 
-read-chosen-begin-requires : (t : ℕ) → read-chosen-lts.Need-begin-requires (read-chosen-known t) (read-chosen-at t) read-chosen.Post
-read-chosen-begin-requires t c κs = c .before .before .before .before .before .pre .1
-
-read-chosen-read-run-requires : (t : ℕ) → read-chosen-lts.Need-read-run-requires (read-chosen-known t) (read-chosen-at t) read-chosen.Post
-read-chosen-read-run-requires t c κs =
-    let s = c .before .before .before .before .before .before .before .before .before .before .before .before .before .before in
-    let b = rw (c .before .before .before .begun2 .given .1) at (c .before .before .before .before .before .before .before .before .begin .ensures) in
-    (omega (arith, s .pre .0), (s .pre .1 .0, s .pre .1 .1, b .0, s .pre .1 .3))
-
-read-chosen-numbers-requires : (t : ℕ) → read-chosen-lts.Need-numbers-requires (read-chosen-known t) (read-chosen-at t) read-chosen.Post
-read-chosen-numbers-requires t c κs =
-    let s = c .before .before .before .before .before .before .before .before .before .before .before .before .before .before in
-    let b = rw (c .before .before .before .begun3 .given .1) at (c .before .before .before .before .before .before .before .before .begin .ensures) in
-    (b .0, s .pre .1 .3)
-
-read-chosen-read-fields-requires : (t : ℕ) → read-chosen-lts.Need-read-fields-requires (read-chosen-known t) (read-chosen-at t) read-chosen.Post
-read-chosen-read-fields-requires t c κs =
-    let s = c .before .before .before .before .before .before .before .before .before .before .before .before .before .before in
-    let b = rw (c .before .before .before .begun4 .given .1) at (c .before .before .before .before .before .before .before .before .begin .ensures) in
-    (omega (arith, s .pre .0), (s .pre .1 .0, s .pre .1 .1, b .0, b .1, s .pre .1 .3))
+read-chosen-opens-requires : (t : ℕ) → read-chosen-lts.Need-opens-requires (read-chosen-known t) (read-chosen-at t) read-chosen.Post
+read-chosen-opens-requires t c κs = c .before .before .before .before .pre .1 .0 .state (omega (arith, c .if1 .taken))
 
 read-chosen-returns : (t : ℕ) → read-chosen-lts.Need-returns (read-chosen-known t) (read-chosen-at t) read-chosen.Post
 read-chosen-returns t c =
-    let b = rw (c .before .begun .given .1) at (c .before .before .before .before .before .before .begin .ensures) in
-    continues-end b
+    let a = c .before .before .before .before .before .before .before .args in
+    let apart = sym (c .before .before .opens .ensures) ∙ not-true (c .before .before .opens .result) (c .before .if2 .taken) in
+    rw (asks-never (now (a .table)) (a .at) (omega (arith, c .before .before .before .if1 .taken)) apart, c .unreadable .ensures) (never-reads _)
+
+-- past the test of a state
+opened : (t : ℕ) (c : read-chosen-lts.Joined1 (read-chosen-known t) (read-chosen-at t) read-chosen.Post) → Opened (now (c .before .before .before .before .args .table)) (c .before .before .before .before .args .at)
+opened t c = record {
+  readable = c .before .before .before .before .pre .1 .0;
+  led = λ l. ⊎-elim (λ w. sym (w .1 .ensures) ∙ not-false (w .1 .result) (w .2 .left)) (λ w. absurd (omega (arith, l, w .left))) (c .if1 .came);
+}
+
+read-chosen-begin-requires : (t : ℕ) → read-chosen-lts.Need-begin-requires (read-chosen-known t) (read-chosen-at t) read-chosen.Post
+read-chosen-begin-requires t c κs = let s = c .before .before .before .before .before .before in (opened t (c .before .before), s .pre .1 .1, s .pre .1 .2)
+
+read-chosen-read-run-requires : (t : ℕ) → read-chosen-lts.Need-read-run-requires (read-chosen-known t) (read-chosen-at t) read-chosen.Post
+read-chosen-read-run-requires t c κs =
+    let s = c .before .before .before .before .before .before .before .before .before .before .before .before .before .before .before in
+    let b = rw (c .before .before .before .begun2 .given .1) at (c .before .before .before .before .before .before .before .before .begin .ensures) in
+    (omega (arith, s .pre .0), (b .0, b .1, s .pre .1 .2))
+
+read-chosen-numbers-requires : (t : ℕ) → read-chosen-lts.Need-numbers-requires (read-chosen-known t) (read-chosen-at t) read-chosen.Post
+read-chosen-numbers-requires t c κs =
+    let b = rw (c .before .before .before .begun3 .given .1) at (c .before .before .before .before .before .before .before .before .begin .ensures) in
+    (b .0, c .before .before .before .before .before .before .before .before .before .before .before .before .before .before .before .pre .1 .2)
+
+read-chosen-read-fields-requires : (t : ℕ) → read-chosen-lts.Need-read-fields-requires (read-chosen-known t) (read-chosen-at t) read-chosen.Post
+read-chosen-read-fields-requires t c κs =
+    let s = c .before .before .before .before .before .before .before .before .before .before .before .before .before .before .before in
+    let b = rw (c .before .before .before .begun4 .given .1) at (c .before .before .before .before .before .before .before .before .begin .ensures) in
+    (omega (arith, s .pre .0), (opened t (c .before .before .before .before .before .before .before .before .before .before .before), b .0, b .1, s .pre .1 .2))
 
 read-chosen-returns-2 : (t : ℕ) → read-chosen-lts.Need-returns-2 (read-chosen-known t) (read-chosen-at t) read-chosen.Post
 read-chosen-returns-2 t c =
-    let b = rw (c .before .before .before .before .before .before .before .begun2 .given .1) at (c .before .before .before .before .before .before .before .before .before .before .before .before .begin .ensures) in
-    b .1 .complete _ _ _ (c .before .before .before .read-run .ensures)
+    let b = rw (c .before .begun .given .1) at (c .before .before .before .before .before .before .begin .ensures) in
+    continues-end b
 
 read-chosen-returns-3 : (t : ℕ) → read-chosen-lts.Need-returns-3 (read-chosen-known t) (read-chosen-at t) read-chosen.Post
 read-chosen-returns-3 t c =
-    let b = rw (c .before .before .before .before .before .before .before .begun3 .given .1) at (c .before .before .before .before .before .before .before .before .before .before .before .before .begin .ensures) in
-    b .1 .complete _ _ _ (c .before .before .before .numbers .ensures)
+    let b = rw (c .before .before .before .before .before .before .before .begun2 .given .1) at (c .before .before .before .before .before .before .before .before .before .before .before .before .begin .ensures) in
+    b .2 .complete _ _ _ (c .before .before .before .read-run .ensures)
 
 read-chosen-returns-4 : (t : ℕ) → read-chosen-lts.Need-returns-4 (read-chosen-known t) (read-chosen-at t) read-chosen.Post
 read-chosen-returns-4 t c =
+    let b = rw (c .before .before .before .before .before .before .before .begun3 .given .1) at (c .before .before .before .before .before .before .before .before .before .before .before .before .begin .ensures) in
+    b .1 .complete _ _ _ (c .before .before .before .numbers .ensures)
+
+read-chosen-returns-5 : (t : ℕ) → read-chosen-lts.Need-returns-5 (read-chosen-known t) (read-chosen-at t) read-chosen.Post
+read-chosen-returns-5 t c =
     let b = rw (c .before .before .before .before .before .before .before .begun4 .given .1) at (c .before .before .before .before .before .before .before .before .before .before .before .before .begin .ensures) in
     b .2 .complete _ _ _ (c .before .before .before .read-fields .ensures)
 
-read-chosen-returns-5 : (t : ℕ) → read-chosen-lts.Need-returns-5 (read-chosen-known t) (read-chosen-at t) read-chosen.Post
-read-chosen-returns-5 t c = rw (c .before .begun5 .given .1) at (c .before .before .before .before .before .before .begin .ensures)
+read-chosen-returns-6 : (t : ℕ) → read-chosen-lts.Need-returns-6 (read-chosen-known t) (read-chosen-at t) read-chosen.Post
+read-chosen-returns-6 t c = rw (c .before .begun5 .given .1) at (c .before .before .before .before .before .before .begin .ensures)
 
 -- ── a run ──
 
 abbrev read-run-Inv-loop : read-run-lts.InvT-loop
 read-run-Inv-loop table at row count message values₀ packed₀ room done₀ here₀ values packed done here =
     (done ≤ count) × (length values ≡ length values₀) × (length packed ≡ length packed₀)
-    × Continues message room (times count (items table row)) (stateAt here₀ values₀ packed₀) (times (count - done) (items table row)) (stateAt here values packed)
+    × Continues message room (times count (asksAt table row)) (stateAt here₀ values₀ packed₀) (times (count - done) (asksAt table row)) (stateAt here values packed)
 
 abbrev read-run-μ-loop : read-run-lts.MeasureT-loop
 read-run-μ-loop table at row count message values₀ packed₀ room done₀ here₀ values packed done here = count - done
@@ -338,21 +371,21 @@ read-run-μ-loop table at row count message values₀ packed₀ room done₀ her
 read-run-loop-holds : (t : ℕ) → read-run-lts.Need-loop-holds (read-run-known t) (read-run-at t) read-run.Post read-run-Inv-loop read-run-μ-loop
 read-run-loop-holds t c =
     let a = c .before .before .before .args in
-    (omega arith, refl, refl, continues-same (ap (λ (n : ℕ). times n (items (now (a .table)) (a .row))) (omega arith)))
+    (omega arith, refl, refl, continues-same (ap (λ (n : ℕ). times n (asksAt (now (a .table)) (a .row))) (omega arith)))
 
 read-run-read-row-requires : (t : ℕ) → read-run-lts.Need-read-row-requires (read-run-known t) (read-run-at t) read-run.Post read-run-Inv-loop read-run-μ-loop
 read-run-read-row-requires t c κs =
     let s = c .before .before .before .before .before .before .before in
-    (omega (arith, s .pre .0, s .pre .1 .2 .1), (s .pre .1 .0, earlier-starts (s .pre .1 .1) (s .pre .1 .2), s .pre .1 .3))
+    (omega (arith, s .pre .0, s .pre .1 .1), (s .pre .1 .0, s .pre .1 .2))
 
 -- what is left begins with one row
 next-row : (t : ℕ) (c : read-run-lts.In-loop (read-run-known t) (read-run-at t) read-run.Post read-run-Inv-loop read-run-μ-loop) → let a = c .before .before .before .before .before .args in let done = c .before .loop .done in
-    times (a .count - done) (items (now (a .table)) (a .row)) ≡ items (now (a .table)) (a .row) then times (a .count - (done + 1)) (items (now (a .table)) (a .row))
+    times (a .count - done) (asksAt (now (a .table)) (a .row)) ≡ asksAt (now (a .table)) (a .row) then times (a .count - (done + 1)) (asksAt (now (a .table)) (a .row))
 next-row t c =
     let a = c .before .before .before .before .before .args in
     let done = c .before .loop .done in
     let more : a .count - done ≡ suc (a .count - (done + 1)) = omega (arith, c .loop-test .taken) in
-    times-more (a .count - done) (a .count - (done + 1)) (items (now (a .table)) (a .row)) more
+    times-more (a .count - done) (a .count - (done + 1)) (asksAt (now (a .table)) (a .row)) more
 
 read-run-returns : (t : ℕ) → read-run-lts.Need-returns (read-run-known t) (read-run-at t) read-run.Post read-run-Inv-loop read-run-μ-loop
 read-run-returns t c =
@@ -372,7 +405,7 @@ read-run-returns-2 : (t : ℕ) → read-run-lts.Need-returns-2 (read-run-known t
 read-run-returns-2 t c =
     let a = c .before .before .before .before .before .args in
     let loop = c .before .loop in
-    continues-end (continues-trans (loop .inv .3) (continues-same (times-none (a .count - loop .done) (items (now (a .table)) (a .row)) (omega arith))))
+    continues-end (continues-trans (loop .inv .3) (continues-same (times-none (a .count - loop .done) (asksAt (now (a .table)) (a .row)) (omega arith))))
 
 pub +read-chosen+read-field+read-fields+read-row+read-run-spec : {M : Type 1} → statement M
 +read-chosen+read-field+read-fields+read-row+read-run-spec =
@@ -383,6 +416,9 @@ pub +read-chosen+read-field+read-fields+read-row+read-run-spec : {M : Type 1} �
     μ-read-row
     μ-read-run
     (λ t. read-chosen-lts.spec (read-chosen-known t) (read-chosen-at t) read-chosen.Post
+    (read-chosen-opens-requires t)
+    (λ c κs. search needs)
+    (read-chosen-returns t)
     (read-chosen-begin-requires t)
     (λ c. search needs)
     (λ c. search needs)
@@ -394,9 +430,6 @@ pub +read-chosen+read-field+read-fields+read-row+read-run-spec : {M : Type 1} �
     (λ c. search needs)
     (λ c. search needs)
     (λ c. search needs)
-    (read-chosen-returns t)
-    (λ c. search needs)
-    (λ c. search needs)
     (read-chosen-returns-2 t)
     (λ c. search needs)
     (λ c. search needs)
@@ -406,7 +439,10 @@ pub +read-chosen+read-field+read-fields+read-row+read-run-spec : {M : Type 1} �
     (read-chosen-returns-4 t)
     (λ c. search needs)
     (λ c. search needs)
-    (read-chosen-returns-5 t))
+    (read-chosen-returns-5 t)
+    (λ c. search needs)
+    (λ c. search needs)
+    (read-chosen-returns-6 t))
     (λ t. read-field-lts.spec (read-field-known t) (read-field-at t) read-field.Post
     (read-field-returns t)
     (read-field-kind-at-requires t)

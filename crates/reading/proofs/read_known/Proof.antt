@@ -8,7 +8,9 @@ use lib.ListN.{length}
 use Rattle.items.specs.Reading.{readValues}
 use Rattle.read_steps.specs.Ends.{keptCount}
 use Rattle.reading.specs.Outcome.{messageOutcome}
-use Rattle.reading.proofs.Passed.{passed-outcome, outcome-fits}
+use Rattle.encoding.specs.Rows.{asks}
+use Rattle.items.proofs.Messages.{message-fits}
+use Rattle.reading.proofs.Passed.{passed-outcome}
 use Rattle.read_steps.proofs.Settled.{count-is, settled-values}
 use borrow.Author.Needs.{needs}
 use Rattle.reading.proofs.read_known.Statement.{statement}
@@ -35,7 +37,7 @@ clear-values-requires c κs =
     let n = length (now (a .values)) in
     let o = messageOutcome (now (a .table)) (now (a .message)) n in
     let k : c .before .kept-count .result ≡ length (readValues o) = c .before .kept-count .ensures ∙ ap keptCount (r .ensures .0) ∙ count-is o in
-    omega (arith, outcome-fits (now (a .table)) (now (a .message)) n, r .kept .1 .1 .1 .0)
+    omega (arith, message-fits (asks (now (a .table))) (now (a .message)) n, r .kept .1 .1 .1 .0)
 
 same-length : tie.Need-same-length
 same-length c = search needs
@@ -49,7 +51,7 @@ returns c =
     let o = messageOutcome (now (a .table)) (now (a .message)) n in
     let k : c .before .before .before .kept-count .result ≡ length (readValues o) = c .before .before .before .kept-count .ensures ∙ ap keptCount (r .ensures .0) ∙ count-is o in
     rw (passed-outcome (now (a .table)) (now (a .message)) n (s .pre .0))
-    (r .ensures .0, c .before .clear-values .ensures ∙ rw k (settled-values o (now (a .values)) _ (outcome-fits (now (a .table)) (now (a .message)) n) (r .kept .1 .1 .1 .0) (r .ensures .1)))
+    (r .ensures .0, c .before .clear-values .ensures ∙ rw k (settled-values o (now (a .values)) _ (message-fits (asks (now (a .table))) (now (a .message)) n) (r .kept .1 .1 .1 .0) (r .ensures .1)))
 
 pub read-known-spec : {M : Type 1} → statement M
 read-known-spec =

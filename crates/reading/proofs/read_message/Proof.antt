@@ -2,7 +2,9 @@
 -- Assumes nothing.
 use Prim.Native.Nat.{_-_}
 use denote.Ref.{now}
+use Rattle.table.specs.Root.{root}
 use Rattle.table.proofs.LastRow.{root-is}
+use Rattle.guard.proofs.Readable.{asks-table, readable-table}
 use Rattle.encoding.specs.Rows.{asks}
 use Rattle.read_steps.proofs.Roots.{root-refused, root-read}
 use borrow.Author.Needs.{needs}
@@ -17,7 +19,7 @@ use Rattle.reader.proofs.read_row.Reads as read-row-reads
 read-row-requires : tie.Need-read-row-requires
 read-row-requires c κs =
     let s = c .before .before .before .before .before in
-    (s .pre .0, rw (s .pre .1) (root-is (now (s .args .table)) (s .pre .0) .starts), s .pre .3)
+    (readable-table (s .pre .0) (rw (s .pre .1) (root-is (now (s .args .table)) (s .pre .0) .starts)), s .pre .3)
 
 enum-known-step : tie.Need-enum-known-step
 enum-known-step c = search needs
@@ -42,7 +44,7 @@ returns c =
     let t = now (a .table) in
     let row = c .before .before .before .before .before .before .read-row in
     rw (c .refused .ensures, c .before .enum-told .given .1)
-    (root-refused (asks t) (now (a .message)) (a .room) (now (a .values)) _ (now (a .packed)) _ (row .result) (s .pre .2) (rw (s .pre .1) at (row .ensures)) _ (c .before .enum-told .given .1))
+    (root-refused (asks t) (now (a .message)) (a .room) (now (a .values)) _ (now (a .packed)) _ (row .result) (s .pre .2) (rw (s .pre .1, asks-table t (root t) (s .pre .0 .most)) at (row .ensures)) _ (c .before .enum-told .given .1))
 
 close-requires : tie.Need-close-requires
 unfolding asks
@@ -51,7 +53,7 @@ close-requires c κs =
     let a = s .args in
     let t = now (a .table) in
     let row = c .before .before .before .before .before .before .read-row in
-    (s .pre .3, root-read (asks t) (now (a .message)) (a .room) (now (a .values)) _ (now (a .packed)) _ (row .result) (s .pre .2) (rw (s .pre .1) at (row .ensures)) _ (c .before .step .given .1) .0)
+    (s .pre .3, root-read (asks t) (now (a .message)) (a .room) (now (a .values)) _ (now (a .packed)) _ (row .result) (s .pre .2) (rw (s .pre .1, asks-table t (root t) (s .pre .0 .most)) at (row .ensures)) _ (c .before .step .given .1) .0)
 
 same-length-3 : tie.Need-same-length-3
 same-length-3 c = search needs
@@ -67,7 +69,7 @@ returns-2 c =
     let t = now (a .table) in
     let row = c .before .before .before .before .before .before .before .read-row in
     rw (c .close .ensures)
-    (root-read (asks t) (now (a .message)) (a .room) (now (a .values)) _ (now (a .packed)) _ (row .result) (s .pre .2) (rw (s .pre .1) at (row .ensures)) _ (c .before .before .step .given .1) .1)
+    (root-read (asks t) (now (a .message)) (a .room) (now (a .values)) _ (now (a .packed)) _ (row .result) (s .pre .2) (rw (s .pre .1, asks-table t (root t) (s .pre .0 .most)) at (row .ensures)) _ (c .before .before .step .given .1) .1)
 
 pub read-message-spec : {M : Type 1} → statement M
 read-message-spec =

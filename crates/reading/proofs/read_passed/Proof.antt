@@ -5,7 +5,8 @@ use native.Mathlib.Omega.{arith}
 use denote.Ref.{now}
 use lib.ListN.{length}
 use borrow.Author.Tests.{le-leb, lt-leb}
-use Rattle.reading.proofs.Passed.{empty-outcome}
+use Rattle.encoding.specs.Rows.{asks}
+use Rattle.items.proofs.Messages.{message-empty}
 use borrow.Author.Needs.{needs}
 use Rattle.reading.proofs.read_passed.Statement.{statement}
 use Rattle.reading.proofs.read_passed.Tie as tie
@@ -28,7 +29,7 @@ refused-requires-2 c κs = search needs
 returns-2 : tie.Need-returns-2
 returns-2 c =
     let a = c .before .before .before .before .before .before .args in
-    rw (empty-outcome (now (a .table)) (now (a .message)) (a .room) (c .before .if2 .taken)) (c .refused2 .ensures, tt, tt)
+    rw (message-empty (asks (now (a .table))) (now (a .message)) (a .room) (c .before .if2 .taken)) (c .refused2 .ensures, tt, tt)
 
 read-message-requires : tie.Need-read-message-requires
 read-message-requires c κs = search needs

@@ -1,6 +1,14 @@
 -- `userdata::header_values` meets its contract. The two headers one after the other.
 -- Assumes nothing.
+use Prim.Native.Nat.{ℕ}
+use mathlib.Core.List.{List}
 use denote.Ref.{now}
+use lib.IntN.{ℤ}
+use Rattle.encoding.specs.Rows.{items}
+use Rattle.guard.specs.Readable.{asksAt}
+use Rattle.guard.proofs.Readable.{asks-table, readable-table}
+use Rattle.read_steps.specs.declared.Step.{Step}
+use Rattle.read_steps.specs.Reads.{State, Reads}
 use Rattle.builtin.specs.Tables.{lm}
 use Rattle.builtin.proofs.Tables.{lm-obeys}
 use Rattle.userdata.proofs.Taken.{network-starts, transport-starts}
@@ -11,6 +19,11 @@ use Rattle.userdata.proofs.header_values.Tie as tie
 use Rattle.userdata.proofs.header_values.Reads as reads
 use Rattle.userdata.proofs.header_values.Lts as lts
 use Rattle.reader.proofs.read_row.Reads as read-row-reads
+
+-- what a row of the table asks for
+asked : (o : ℕ) {message : List ℕ} {room : ℕ} {from : State} {values : List ℤ} {packed : List ℕ} {step : Step}
+    → Reads message room (asksAt lm o) from values packed step → Reads message room (items lm o) from values packed step
+asked o r = rw (asks-table lm o (lm-obeys .most)) at r
 
 slice-aggregate-read-row : tie.Need-slice-aggregate-read-row
 slice-aggregate-read-row c = search needs
@@ -23,7 +36,7 @@ slice-aggregate-read-row-3 c = search needs
 
 read-row-requires : tie.Need-read-row-requires
 unfolding lm
-read-row-requires c κs = (lm-obeys, network-starts, c .before .before .before .before .pre)
+read-row-requires c κs = (readable-table lm-obeys network-starts, c .before .before .before .before .pre)
 
 enum-known-network : tie.Need-enum-known-network
 enum-known-network c = search needs
@@ -36,7 +49,7 @@ unfolding lm
 returns c =
     let a = c .before .before .before .before .before .before .before .before .before .args in
     let first = c .before .before .before .before .read-row in
-    network-refused (now (a .message)) _ _ _ _ (first .result) (first .ensures) _ (c .enum-told .given .1)
+    network-refused (now (a .message)) _ _ _ _ (first .result) (asked 204 (first .ensures)) _ (c .enum-told .given .1)
 
 slice-aggregate-read-row-4 : tie.Need-slice-aggregate-read-row-4
 slice-aggregate-read-row-4 c = search needs
@@ -49,7 +62,7 @@ slice-aggregate-read-row-6 c = search needs
 
 read-row-requires-2 : tie.Need-read-row-requires-2
 unfolding lm
-read-row-requires-2 c κs = (lm-obeys, transport-starts, c .before .before .before .before .before .before .before .before .before .before .before .before .before .pre)
+read-row-requires-2 c κs = (readable-table lm-obeys transport-starts, c .before .before .before .before .before .before .before .before .before .before .before .before .before .pre)
 
 enum-known-transport : tie.Need-enum-known-transport
 enum-known-transport c = search needs
@@ -63,7 +76,7 @@ returns-2 c =
     let a = c .before .before .before .before .before .before .before .before .before .before .before .before .before .before .before .before .before .before .args in
     let first = c .before .before .before .before .before .before .before .before .before .before .before .before .before .read-row in
     let second = c .before .before .before .before .read-row2 in
-    transport-refused (now (a .message)) _ _ _ _ (first .result) (first .ensures) _ (c .before .before .before .before .before .before .before .before .before .network .given .1) _ _ (second .result) (second .ensures) _ (c .enum-told2 .given .1)
+    transport-refused (now (a .message)) _ _ _ _ (first .result) (asked 204 (first .ensures)) _ (c .before .before .before .before .before .before .before .before .before .network .given .1) _ _ (second .result) (asked 278 (second .ensures)) _ (c .enum-told2 .given .1)
 
 returns-3 : tie.Need-returns-3
 unfolding lm
@@ -71,7 +84,7 @@ returns-3 c =
     let a = c .before .before .before .before .before .before .before .before .before .before .before .before .before .before .before .before .before .before .before .args in
     let first = c .before .before .before .before .before .before .before .before .before .before .before .before .before .before .read-row in
     let second = c .before .before .before .before .before .read-row2 in
-    transport-past (now (a .message)) _ _ _ _ (first .result) (first .ensures) _ (c .before .before .before .before .before .before .before .before .before .before .network .given .1) _ _ (second .result) (second .ensures) _ (c .before .transport .given .1)
+    transport-past (now (a .message)) _ _ _ _ (first .result) (asked 204 (first .ensures)) _ (c .before .before .before .before .before .before .before .before .before .before .network .given .1) _ _ (second .result) (asked 278 (second .ensures)) _ (c .before .transport .given .1)
 
 pub header-values-spec : {M : Type 1} → statement M
 header-values-spec =
