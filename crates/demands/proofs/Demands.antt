@@ -9,12 +9,16 @@ use Rattle.item.proofs.Widths.{item-widths}
 use Rattle.rules.proofs.Depths.{depths}
 use Rattle.table.proofs.Checks.{checks}
 use Rattle.table.proofs.Cases.{tables-given}
+use Rattle.table.proofs.Summary.{summaries}
 use Rattle.encoding.proofs.Demand2.{demand2}
 use Rattle.items.proofs.Filled.{filled-up, zeros-after}
+use Rattle.items.proofs.Numbered.{reading-numbered}
 use Rattle.encoding.proofs.Demand3.{demand3}
 use Rattle.encoding.proofs.Demand3Octets.{demand3-octets}
 use Rattle.encoding.proofs.UnderTable.{under-table}
 use Rattle.encoding.proofs.OpenOctets.{open-octets}
+use Rattle.encoding.proofs.Guarded.{bounded, sound}
+use Rattle.loading.proofs.Sequence.{sequences, any-states}
 use Rattle.visits.proofs.Visits.{visits}
 use Rattle.visits.proofs.Reached.{reached}
 use Rattle.builtin.proofs.Tables.{built-in}
@@ -42,6 +46,12 @@ demands = record {
   underTables = under-table;
   tableCases = tables-given;
   openOctets = open-octets;
+  loaded = sequences;
+  anyStates = any-states;
+  sound = sound;
+  bounded = bounded;
+  summaries = summaries;
+  readingNumbers = reading-numbered;
   depths = depths;
   ranges = item-ranges;
   width = smallest-width;

@@ -4,7 +4,7 @@
 -- Demand 1 is the contracts of the calls: none has a `requires`, and each says its answer and what every lent slice then holds.
 -- docs/CLAIMS.md lists them, and a test holds the list to the sources.
 -- The theorems here are about the definitions that those contracts cite (readCall, writeCall, valuesAfter, packedAfter,
--- outputAfter, readLmCall, writeLmCall, userDataFound, verdict) and about the rules of documents 01 and 02, which mention no code.
+-- outputAfter, readLmCall, writeLmCall, userDataFound, verdict, loadedBy, throughState) and about the rules of documents 01 and 02, which mention no code.
 -- Document 01 is meant as document 02's landed tickets change it: kinds of rows are 1 to 8.
 --
 -- Beside it stands what is said of the bench program's text: OneText, in stream's specs/Program.antt.
@@ -20,13 +20,17 @@ use Rattle.item.specs.Widths.{ItemWidths}
 use Rattle.rules.specs.Depths.{Depths}
 use Rattle.table.specs.Checks.{Checks}
 use Rattle.table.specs.Cases.{TablesGiven}
+use Rattle.table.specs.Summary.{Summaries}
 use Rattle.encoding.specs.Demand2.{Demand2}
 use Rattle.items.specs.Items.{Items}
 use Rattle.items.specs.Filled.{FilledUp, ZerosAfter}
+use Rattle.items.specs.Numbered.{ReadingNumbered}
 use Rattle.encoding.specs.Demand3.{AreOctets, Demand3}
 use Rattle.encoding.specs.Demand3Octets.{Demand3Octets}
 use Rattle.encoding.specs.UnderTable.{UnderTable}
 use Rattle.encoding.specs.OpenOctets.{OpenOctets}
+use Rattle.encoding.specs.Guarded.{Bounded, Sound}
+use Rattle.loading.specs.Sequence.{Sequences, AnyStates}
 use Rattle.visits.specs.Visits.{Visits}
 use Rattle.visits.specs.Reached.{Reached}
 use Rattle.builtin.specs.Built.{BuiltIn}
@@ -85,6 +89,18 @@ pub record Demands : Type 1 where
   -- ── document 02, ticket 2 ──
   -- open octets, kind 8, are octets, kind 7, but for a most or a length of 0: under the check, in lists and bits, read and written
   pub openOctets : (t : List ℕ) (o : ℕ) (g : ℕ → Items) → OpenOctets t o g
+  -- ── document 02, ticket 3 ──
+  -- after any sequence of loads and reads from a fresh state: what it holds, and what reading through it comes to
+  pub loaded : Sequences
+  -- of a state made otherwise demand 1 holds: the refusals that reading through it can give
+  pub anyStates : AnyStates
+  -- what rows of a state ask for is what those of its table do; what is kept of a table beside its octets
+  pub sound : Sound
+  -- and no more than 32 rows of it are read inside one another, whatever it holds
+  pub bounded : Bounded
+  pub summaries : Summaries
+  -- the numbers with which reading refuses, whatever items are asked for
+  pub readingNumbers : ReadingNumbered
   -- ── beside the demands ──
   -- how many rows are visited at most, counted over the definitions, and that it may be so many
   pub visits : (t : List ℕ) → Visits t

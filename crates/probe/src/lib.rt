@@ -1,7 +1,8 @@
-// For the tests in host/ alone and no part of the product, so that nothing here has a contract: the calls by name, which the
-// host's three calls do not reach.
+// For the tests in host/ alone and no part of the product, so that nothing here has a contract: the calls by name and
+// those with values as numbers, which the host's calls do not reach.
 use bits::BitPlace;
 use elements::Home;
+use loading::STATE;
 use opened::Taken;
 use userdata::Found;
 
@@ -39,6 +40,17 @@ pub extern "C" fn probe_write_sam(values: &[i64], output: &mut [u8], numbers: &m
 #[no_mangle]
 pub extern "C" fn probe_write_srm(values: &[i64], output: &mut [u8], numbers: &mut [u64; 6]) {
     *numbers = teyolxan::numbers::told(messages::write_srm(values, output));
+}
+
+// Reads through a state, with the values as numbers.
+#[no_mangle]
+pub extern "C" fn probe_read_loaded(
+    state: &[u8; STATE],
+    message: &[u8],
+    values: &mut [i64],
+    numbers: &mut [u64; 6],
+) {
+    *numbers = teyolxan::numbers::told(loaded::read(state, message, values));
 }
 
 // A known element: 0 here, 1 elsewhere, 2 unknown.

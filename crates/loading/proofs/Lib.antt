@@ -1,0 +1,4 @@
+pub mod Stores
+pub mod Loads
+pub mod Held
+pub mod Sequence
