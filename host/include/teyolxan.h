@@ -42,8 +42,12 @@ enum {
     TEYOLXAN_REFUSED_WRONG_ROW_NUMBER = 23,
     TEYOLXAN_REFUSED_WRONG_REFERENCE = 24,
     TEYOLXAN_REFUSED_ONLY_RESERVED = 25,
-    TEYOLXAN_REFUSED_TOO_DEEP = 26
+    TEYOLXAN_REFUSED_TOO_DEEP = 26,
+    TEYOLXAN_REFUSED_NO_TABLE = 27
 };
+
+/* The octets of a state, into which a table is loaded. All zeros, it is fresh and holds no table. */
+#define TEYOLXAN_STATE_SIZE 6160
 
 /* The name of 6 before it told lengths below a least, too. */
 #define TEYOLXAN_REFUSED_ABOVE_MOST TEYOLXAN_REFUSED_OUTSIDE_LIMITS
@@ -58,7 +62,14 @@ void teyolxan_write(const uint8_t *table, size_t table_length,
                     const uint8_t *values, size_t values_length,
                     uint8_t *output, size_t output_length, uint64_t numbers[6]);
 
-/* Whether a refusal's number tells what is wrong with the table: 1, and 20 to 26. Every call under that table gives it. */
+void teyolxan_load(uint8_t state[TEYOLXAN_STATE_SIZE],
+                   const uint8_t *table, size_t table_length, uint64_t numbers[6]);
+
+void teyolxan_read_loaded(const uint8_t state[TEYOLXAN_STATE_SIZE],
+                          const uint8_t *message, size_t message_length,
+                          uint8_t *values, size_t values_length, uint64_t numbers[6]);
+
+/* Whether a refusal's number tells what is wrong with the table: 1, and 20 to 26. Every call that is lent that table gives it. */
 static inline int teyolxan_is_of_table(uint64_t number)
 {
     return number == TEYOLXAN_REFUSED_TABLE_SIZE
@@ -109,6 +120,8 @@ static inline const char *teyolxan_meaning(uint64_t number)
         return "every branch of the choice is reserved";
     case TEYOLXAN_REFUSED_TOO_DEEP:
         return "the row is deeper than 32";
+    case TEYOLXAN_REFUSED_NO_TABLE:
+        return "no table is loaded";
     default:
         return "no refusal has this number";
     }

@@ -1,10 +1,11 @@
-//! What a host calls: check, read and write under a lent table. Any octets may be lent; no call
-//! panics, allocates, or holds anything back. `Refusal` has a name for each refusal's number, and
-//! what it means in a sentence. docs/HOST.md has an example.
+//! What a host calls: check, read and write under a lent table, and read under one that was loaded
+//! before. Any octets may be lent; no call panics, allocates, or holds anything back. `Refusal` has a
+//! name for each refusal's number, and what it means in a sentence. docs/HOST.md has examples.
 
+use crate::codec::{StateOctets, FRESH};
 use crate::linked::{self, Numbers};
 
-pub use crate::codec::{Answer, Refusal};
+pub use crate::codec::{Answer, Refusal, STATE_SIZE};
 
 /// Whether the table obeys the rules of document 01; if not, its first row that breaks one.
 #[inline]
@@ -38,6 +39,46 @@ pub fn read_octets(table: &[u8], message: &[u8], values: &mut [u8]) -> Answer {
 #[inline]
 pub fn write_octets(table: &[u8], values: &[u8], output: &mut [u8]) -> Answer {
     answer(|numbers| linked::write(table, values, output, numbers))
+}
+
+/// A table that is checked once, for any number of messages: its octets, and what the check found.
+///
+/// It is `STATE_SIZE` octets, on the stack or wherever a host puts it; what stands where in them is the
+/// library's own.
+#[derive(Clone)]
+pub struct State(StateOctets);
+
+impl State {
+    /// Holds no table: reading through it is refused as `Refusal::NO_TABLE`.
+    pub const fn fresh() -> State {
+        State(FRESH)
+    }
+
+    /// Loads a table in place of any other; answers as `check` does. After a refusal the state is as it
+    /// was, and so is the table in it.
+    #[inline]
+    pub fn load(&mut self, table: &[u8]) -> Answer {
+        answer(|numbers| linked::load(&mut self.0, table, numbers))
+    }
+
+    /// Reads the message under the loaded table, as `api::read` does under a lent one.
+    #[inline]
+    pub fn read(&self, message: &[u8], values: &mut [i64]) -> Answer {
+        self.read_octets(message, linked::octets_mut(values))
+    }
+
+    /// The same into a slice of octets, as `api::read_octets` does.
+    #[inline]
+    pub fn read_octets(&self, message: &[u8], values: &mut [u8]) -> Answer {
+        answer(|numbers| linked::read_loaded(&self.0, message, values, numbers))
+    }
+}
+
+/// A fresh one.
+impl Default for State {
+    fn default() -> State {
+        State::fresh()
+    }
 }
 
 /// The answer of a call that tells it in numbers.

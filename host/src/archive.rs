@@ -4,7 +4,7 @@
 use crate::api::told;
 use crate::by_name::{self, Name};
 use crate::codec::{
-    value_octets, values_of, Answer, Bits, Call, Codec, Element, Part, Refusal, Taken,
+    value_octets, values_of, Answer, Bits, Call, Codec, Element, Part, Refusal, StateOctets, Taken,
 };
 use crate::guarded::{InPlace, Memory};
 use crate::linked::{self, probe, Numbers};
@@ -16,7 +16,7 @@ pub struct Archive<M = InPlace>(pub M);
 pub const ARCHIVE: Archive = Archive(InPlace);
 
 /// The calls that the libraries offer.
-pub const CALLS: [Call; 8] = [
+pub const CALLS: [Call; 10] = [
     Call::Check,
     Call::Read,
     Call::Write,
@@ -25,6 +25,8 @@ pub const CALLS: [Call; 8] = [
     Call::Element,
     Call::UserData,
     Call::Take,
+    Call::Load,
+    Call::ReadLoaded,
 ];
 
 /// The answer that these numbers tell, after a look that they tell nothing else.
@@ -176,6 +178,38 @@ impl<M: Memory> Codec for Archive<M> {
             opened: self.open(message),
             steps: widths.iter().map(&mut step).collect(),
         }
+    }
+
+    fn load(&self, state: &mut StateOctets, table: &[u8]) -> Answer {
+        exactly(self.0.show(table, |table| {
+            self.0.lend(state, |state| {
+                let state = state.try_into().expect("as many octets as before");
+                self.numbers(|numbers| linked::load(state, table, numbers))
+            })
+        }))
+    }
+
+    /// Both calls, with values as octets and as numbers: they have to give the same.
+    fn read_loaded(&self, state: &StateOctets, message: &[u8], values: &mut [u8]) -> Answer {
+        let mut list = vec![-1; values.len() / 8];
+        let [octets, numbers] = self.0.show(state, |state| {
+            let state = state.try_into().expect("as many octets as before");
+            self.0.show(message, |message| {
+                let octets = self.0.lend(values, |values| {
+                    self.numbers(|numbers| linked::read_loaded(state, message, values, numbers))
+                });
+                let numbers = self.0.lend(&mut list, |list| {
+                    self.numbers(|numbers| probe::read_loaded(state, message, list, numbers))
+                });
+                [octets, numbers]
+            })
+        });
+        assert_eq!(numbers, octets, "values as numbers");
+        assert!(
+            values.starts_with(&value_octets(&list)),
+            "values as numbers"
+        );
+        exactly(octets)
     }
 }
 

@@ -1,6 +1,11 @@
 //! A small assembler for tables (document 01, "Row layout", and ticket 2 of document 02): each
 //! function adds one row and gives its offset, to be used as a reference by later rows. It writes
-//! what it is told and checks nothing, so that tables which break a rule can be made too.
+//! what it is told and checks nothing, so that tables which break a rule can be made too. States, with
+//! a table inside (ticket 3), are made in the same way.
+
+use std::ops::Range;
+
+use crate::codec::{StateOctets, FRESH};
 
 /// A row's offset, as references hold it.
 pub type Offset = u16;
@@ -18,6 +23,47 @@ pub mod kind {
     pub const CHOICE: u16 = 6;
     pub const OCTETS: u16 = 7;
     pub const OPEN_OCTETS: u16 = 8;
+}
+
+/// Where the parts of a state stand. Numbers have two octets, but for depths and the outcome. What is
+/// not named here is 0, and so is all of a fresh state.
+pub mod state {
+    use super::Range;
+
+    /// The table, then zeros.
+    pub const TABLE: Range<usize> = 0..4_096;
+    /// The depth of each row, at half its offset; 0 where no row starts.
+    pub const DEPTHS: Range<usize> = 4_096..6_144;
+    /// The octets of the table.
+    pub const LENGTH: usize = 6_144;
+    /// How many rows it has.
+    pub const ROWS: usize = 6_146;
+    /// The offset of its root.
+    pub const ROOT: usize = 6_148;
+    /// The outcome of its check.
+    pub const OUTCOME: usize = 6_150;
+
+    /// The outcome where a table is loaded.
+    pub const PASSED: u8 = 1;
+}
+
+/// A state that says of itself that these octets are loaded, with rows of these depths.
+pub fn state_with(table: &[u8], depths: &[(Offset, u8)], root: Offset) -> Box<StateOctets> {
+    let mut state = Box::new(FRESH);
+    state[..table.len()].copy_from_slice(table);
+    for &(row, depth) in depths {
+        state[state::DEPTHS][usize::from(row) / 2] = depth;
+    }
+    put(&mut state, state::LENGTH, table.len() as u16);
+    put(&mut state, state::ROWS, depths.len() as u16);
+    put(&mut state, state::ROOT, root);
+    state[state::OUTCOME] = state::PASSED;
+    state
+}
+
+/// Puts a number of two octets into a state.
+pub fn put(state: &mut StateOctets, at: usize, number: u16) {
+    state[at..at + 2].copy_from_slice(&number.to_le_bytes());
 }
 
 /// A table in the making; the last row added is its root.
@@ -101,6 +147,15 @@ impl Assembler {
     pub fn open_octets(&mut self, most: u16) -> Offset {
         let at = self.row(6, kind::OPEN_OCTETS);
         self.put(most);
+        at
+    }
+
+    /// Numbers of two octets as they are, right or wrong.
+    pub fn numbers(&mut self, numbers: &[u16]) -> Offset {
+        let at = self.octets.len() as Offset;
+        for &number in numbers {
+            self.put(number);
+        }
         at
     }
 

@@ -1,6 +1,6 @@
 //! One call with its input, and the outcome of making it on a codec.
 
-use crate::codec::{Answer, Call, Codec, Element, Part, Refusal, Taken};
+use crate::codec::{Answer, Call, Codec, Element, Part, Refusal, StateOctets, Taken};
 
 /// A call with its input.
 #[derive(Clone, Debug)]
@@ -35,6 +35,29 @@ pub enum Case {
     Bench {
         stream: Vec<u8>,
     },
+    /// Loads into one state.
+    Load {
+        /// The state before them, made by anyone.
+        state: Box<StateOctets>,
+        tables: Vec<Vec<u8>>,
+    },
+    /// Loads and readings through one state, one after another.
+    ReadLoaded {
+        state: Box<StateOctets>,
+        steps: Vec<Step>,
+    },
+}
+
+/// What is done with a state.
+#[derive(Clone, Debug)]
+pub enum Step {
+    Load {
+        table: Vec<u8>,
+    },
+    Read {
+        message: Vec<u8>,
+        value_octets: usize,
+    },
 }
 
 /// The table that a message is read or written under.
@@ -55,6 +78,20 @@ pub enum Outcome {
     Element(Element),
     Taken(Taken),
     Printed(String),
+    /// The whole state afterwards.
+    Stored(Vec<u8>),
+    Steps(Vec<Told>),
+}
+
+/// What a step with a state gave.
+#[derive(Clone, Debug, PartialEq, Eq)]
+pub struct Told {
+    pub answer: Answer,
+    /// The whole value slice after a reading.
+    pub slice: Vec<u8>,
+    /// Whether the step changed the state although it is no load, or a refused one. Between guards a
+    /// reading that writes to it dies.
+    pub spoilt: bool,
 }
 
 /// What lent slices hold before a call, so that an octet which is not written shows.
@@ -76,6 +113,8 @@ impl Case {
             Case::Element { .. } => Call::Element,
             Case::Take { .. } => Call::Take,
             Case::Bench { .. } => Call::Bench,
+            Case::Load { .. } => Call::Load,
+            Case::ReadLoaded { .. } => Call::ReadLoaded,
         }
     }
 
@@ -111,17 +150,53 @@ impl Case {
             Case::Element { id, home } => Outcome::Element(codec.element(*id, *home)),
             Case::Take { message, widths } => Outcome::Taken(codec.take(message, widths)),
             Case::Bench { stream } => Outcome::Printed(codec.bench(stream)),
+            Case::Load { state, tables } => {
+                let mut state = state.clone();
+                for table in tables {
+                    codec.load(&mut state, table);
+                }
+                Outcome::Stored(state.to_vec())
+            }
+            Case::ReadLoaded { state, steps } => {
+                let mut state = state.clone();
+                let tell = |step: &Step| step.run(codec, &mut state);
+                Outcome::Steps(steps.iter().map(tell).collect())
+            }
+        }
+    }
+}
+
+impl Step {
+    fn run(&self, codec: &dyn Codec, state: &mut StateOctets) -> Told {
+        let before = *state;
+        let (answer, slice) = match self {
+            Step::Load { table } => (codec.load(state, table), Vec::new()),
+            Step::Read {
+                message,
+                value_octets,
+            } => {
+                let mut slice = vec![BEFORE; *value_octets];
+                (codec.read_loaded(state, message, &mut slice), slice)
+            }
+        };
+        let loaded = matches!(self, Step::Load { .. }) && answer.refusal().is_none();
+        Told {
+            answer,
+            slice,
+            spoilt: !loaded && *state != before,
         }
     }
 }
 
 impl Outcome {
-    /// The refusal that this outcome is, if it is one.
-    pub fn refusal(&self) -> Option<Refusal> {
+    /// For each call that is accepted or refused, its refusal, if it is one.
+    pub fn verdicts(&self) -> Vec<Option<Refusal>> {
         match self {
-            Outcome::Checked(answer) | Outcome::Filled(answer, _) => answer.refusal(),
-            Outcome::UserData(Err(refusal)) => Some(*refusal),
-            _ => None,
+            Outcome::Checked(answer) | Outcome::Filled(answer, _) => vec![answer.refusal()],
+            Outcome::UserData(part) => vec![part.err()],
+            Outcome::Steps(steps) => steps.iter().map(|told| told.answer.refusal()).collect(),
+            Outcome::Element(_) | Outcome::Taken(_) => Vec::new(),
+            Outcome::Printed(_) | Outcome::Stored(_) => Vec::new(),
         }
     }
 }

@@ -7,12 +7,12 @@
 use std::error::Error;
 use std::fmt;
 
-/// A refusal: its number in document 01, as ticket 1 of document 02 splits it, and its place.
+/// A refusal: its number in document 01, as tickets 1 and 3 of document 02 change them, and its place.
 #[derive(Clone, Copy, Debug, PartialEq, Eq)]
 pub struct Refusal {
     pub number: u32,
     /// In octets of the table for 20 to 26: the first octet of the row at fault. Else in bits of
-    /// the message on reading, and an index into the list on writing. 0 for 1 and 13.
+    /// the message on reading, and an index into the list on writing. 0 for 1, 13 and 27.
     pub place: u64,
 }
 
@@ -69,6 +69,7 @@ refusals! {
     WRONG_REFERENCE = 24, "a reference of the row is not the first octet of an earlier row";
     ONLY_RESERVED = 25, "every branch of the choice is reserved";
     TOO_DEEP = 26, "the row is deeper than 32";
+    NO_TABLE = 27, "no table is loaded";
 }
 
 impl Refusal {
@@ -81,7 +82,7 @@ impl Refusal {
     /// The highest number. Not every number below it is a refusal's.
     pub const HIGHEST: u32 = Refusal::ALL[Refusal::ALL.len() - 1];
 
-    /// Whether the number tells what is wrong with a table: every call under the table gives it.
+    /// Whether the number tells what is wrong with a table: every call that is lent the table gives it.
     pub const fn is_of_table(number: u32) -> bool {
         number == Refusal::TABLE_SIZE
             || (number >= Refusal::ROW_PAST_END && number <= Refusal::TOO_DEEP)
@@ -105,7 +106,7 @@ impl fmt::Display for Refusal {
 
 impl Error for Refusal {}
 
-/// The answer of a check, a reading or a writing. A count that the call does not tell is 0.
+/// The answer of a check, a load, a reading or a writing. A count that the call does not tell is 0.
 #[derive(Clone, Copy, Debug, PartialEq, Eq)]
 pub enum Answer {
     Accepted {
@@ -145,6 +146,15 @@ impl From<Refusal> for Answer {
         }
     }
 }
+
+/// The size of a state, into which a table is loaded, in octets.
+pub const STATE_SIZE: usize = 6_160;
+
+/// A state as it is lent.
+pub type StateOctets = [u8; STATE_SIZE];
+
+/// A state that no table was loaded into.
+pub const FRESH: StateOctets = [0; STATE_SIZE];
 
 /// The part of an LM that is its user data, in octets.
 #[derive(Clone, Copy, Debug, PartialEq, Eq)]
@@ -187,10 +197,12 @@ pub enum Call {
     Element,
     Take,
     Bench,
+    Load,
+    ReadLoaded,
 }
 
 impl Call {
-    pub const ALL: [Call; 9] = [
+    pub const ALL: [Call; 11] = [
         Call::Check,
         Call::Read,
         Call::Write,
@@ -200,6 +212,8 @@ impl Call {
         Call::Element,
         Call::Take,
         Call::Bench,
+        Call::Load,
+        Call::ReadLoaded,
     ];
 }
 
@@ -250,6 +264,16 @@ pub trait Codec {
     /// What the bench program prints for this input.
     fn bench(&self, _input: &[u8]) -> String {
         not_offered(Call::Bench)
+    }
+
+    /// Loads a table into a state.
+    fn load(&self, _state: &mut StateOctets, _table: &[u8]) -> Answer {
+        not_offered(Call::Load)
+    }
+
+    /// Reads through a state, whatever it holds; `values` as in `read`.
+    fn read_loaded(&self, _state: &StateOctets, _message: &[u8], _values: &mut [u8]) -> Answer {
+        not_offered(Call::ReadLoaded)
     }
 }
 

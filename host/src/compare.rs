@@ -3,12 +3,12 @@
 
 use std::fmt;
 
-use crate::case::{Case, Outcome, Table};
-use crate::codec::{value_octets, Call, Codec, Refusal};
+use crate::case::{Case, Outcome, Step, Table};
+use crate::codec::{value_octets, Call, Codec, Refusal, StateOctets, FRESH};
 use crate::random::{
-    allowed_list, frames, large_list, large_lm, large_message, lm_list, lm_message,
-    nearly_passing_table, passing_table, some_budget, some_message, some_output, some_room,
-    wrong_list, Drawn, Random,
+    allowed_list, forged_state, frames, large_list, large_lm, large_message, lm_list, lm_message,
+    message_through, nearly_passing_table, passing_table, some_budget, some_message, some_output,
+    some_room, wrong_list, Drawn, Random,
 };
 use crate::reference::{lm_table, root_of};
 use crate::vectors::{case_text, outcome_text};
@@ -19,7 +19,7 @@ pub struct Stats {
     pub cases: u64,
     /// By call, in the order of `Call::ALL`.
     pub calls: [u64; Call::ALL.len()],
-    /// Checks, readings, writings and user data calls that were accepted.
+    /// Checks, loads, readings, writings and user data calls that were accepted.
     pub accepted: u64,
     /// The same, refused, by number; 0 at what is no refusal's number.
     pub refused: [u64; Refusal::HIGHEST as usize + 1],
@@ -133,14 +133,15 @@ pub fn compare_one(
     }
     stats.cases += 1;
     stats.calls[case.call() as usize] += 1;
-    match (&outcomes.0, outcomes.0.refusal()) {
-        (_, Some(refusal)) => {
-            if let Some(count) = stats.refused.get_mut(refusal.number as usize) {
-                *count += 1;
+    for verdict in outcomes.0.verdicts() {
+        match verdict {
+            Some(refusal) => {
+                if let Some(count) = stats.refused.get_mut(refusal.number as usize) {
+                    *count += 1;
+                }
             }
+            None => stats.accepted += 1,
         }
-        (Outcome::Element(_) | Outcome::Taken(_) | Outcome::Printed(_), None) => (),
-        (_, None) => stats.accepted += 1,
     }
     Ok(())
 }
@@ -159,7 +160,8 @@ pub fn short(mut text: String) -> String {
 /// The first octet that two lent slices differ in.
 fn first_difference(left: &Outcome, right: &Outcome) -> Option<usize> {
     match (left, right) {
-        (Outcome::Filled(_, left), Outcome::Filled(_, right)) => {
+        (Outcome::Filled(_, left), Outcome::Filled(_, right))
+        | (Outcome::Stored(left), Outcome::Stored(right)) => {
             (0..left.len().max(right.len())).find(|&at| left.get(at) != right.get(at))
         }
         _ => None,
@@ -180,6 +182,8 @@ fn weight(call: Call) -> u64 {
         Call::Element => 1,
         Call::Take => 4,
         Call::Bench => 2,
+        Call::Load => 1,
+        Call::ReadLoaded => 9,
     }
 }
 
@@ -241,6 +245,9 @@ pub fn draw(random: &mut Random, calls: &[Call]) -> Case {
         Call::Bench => Case::Bench {
             stream: frames(random),
         },
+        Call::Load => draw_load(random),
+        Call::ReadLoaded if random.one_in(3) => draw_forged(random),
+        Call::ReadLoaded => draw_loaded(random),
     }
 }
 
@@ -352,6 +359,100 @@ fn draw_large_write(random: &mut Random) -> Case {
         table: Table::Lent(table),
         values: value_octets(&drawn.values()),
         output,
+    }
+}
+
+/// A table for a state that holds `before`, which may come again, or its beginning.
+fn table_to_load(random: &mut Random, before: Option<&Vec<u8>>) -> Vec<u8> {
+    match (random.below(16), before) {
+        (0, _) => lm_table().octets.clone(),
+        (1, Some(before)) => before.clone(),
+        (2, Some(before)) => before[..random.index(before.len())].to_vec(),
+        _ => some_table(random),
+    }
+}
+
+/// Loads into a fresh state, or into one that was made otherwise.
+fn draw_load(random: &mut Random) -> Case {
+    let state = match random.below(8) {
+        0 => forged_state(random),
+        _ => Box::new(FRESH),
+    };
+    let mut tables: Vec<Vec<u8>> = Vec::new();
+    for _ in 0..1 + random.below(4) {
+        let table = table_to_load(random, tables.last());
+        tables.push(table);
+    }
+    Case::Load { state, tables }
+}
+
+/// Loads and readings from a fresh state on. Most messages are for the table that is loaded then.
+fn draw_loaded(random: &mut Random) -> Case {
+    let mut held: Option<(Vec<u8>, Drawn)> = None;
+    let mut steps = Vec::new();
+    for _ in 0..1 + random.below(8) {
+        let loads = match held {
+            Some(_) => random.one_in(3),
+            None => !random.one_in(4),
+        };
+        steps.push(if loads {
+            let table = table_to_load(random, held.as_ref().map(|(table, _)| table));
+            if let Some(root) = root_of(&table) {
+                let budget = some_budget(random);
+                let drawn = allowed_list(random, &table, root, budget);
+                held = Some((table.clone(), drawn));
+            }
+            Step::Load { table }
+        } else {
+            let (message, needed) = match &held {
+                _ if random.one_in(500) => (large_message(random), 3),
+                Some((table, drawn)) => (some_message(random, table, drawn), drawn.items.len()),
+                None if random.one_in(32) => (large_message(random), 3),
+                None => {
+                    let size = random.index(8);
+                    (random.octets(size), size)
+                }
+            };
+            Step::Read {
+                message,
+                value_octets: value_slice(random, needed),
+            }
+        });
+    }
+    Case::ReadLoaded {
+        state: Box::new(FRESH),
+        steps,
+    }
+}
+
+/// Readings through a state that was made otherwise; now and then a table is loaded over it.
+fn draw_forged(random: &mut Random) -> Case {
+    let state = forged_state(random);
+    let mut steps: Vec<Step> = (0..1 + random.below(4))
+        .map(|_| read_through(random, &state))
+        .collect();
+    if random.one_in(8) {
+        let table = some_table(random);
+        let at = random.index(steps.len() + 1);
+        steps.insert(at, Step::Load { table });
+    }
+    Case::ReadLoaded { state, steps }
+}
+
+fn read_through(random: &mut Random, state: &StateOctets) -> Step {
+    let room = match random.below(16) {
+        0..=1 => random.index(4),
+        2 => 2_000,
+        _ => 40,
+    };
+    let message = match random.below(500) {
+        0 => large_message(random),
+        _ => message_through(random, state, room),
+    };
+    let rest = if random.one_in(4) { random.index(8) } else { 0 };
+    Step::Read {
+        message,
+        value_octets: 8 * room + rest,
     }
 }
 

@@ -11,6 +11,7 @@ use std::fs::File;
 use std::os::fd::{AsRawFd, FromRawFd};
 use std::{ptr, slice};
 
+use crate::codec::STATE_SIZE;
 use crate::linked;
 use crate::random::Random;
 
@@ -58,7 +59,7 @@ pub struct Guarded {
     random: RefCell<Random>,
 }
 
-/// The most slices of one call: a table, a message or list, what is written, and the numbers.
+/// The most slices of one call: a table or state, a message or list, what is written, and the numbers.
 const SLICES: usize = 4;
 
 /// What the octets beside a slice that is written hold, and how many of them are looked at where
@@ -237,26 +238,36 @@ pub enum Trespass {
     WriteBefore,
     WriteAfter,
     WriteShown,
+    LoadBefore,
+    LoadAfter,
+    LoadShown,
 }
 
 impl Trespass {
-    pub const ALL: [Trespass; 5] = [
+    pub const ALL: [Trespass; 8] = [
         Trespass::ReadBefore,
         Trespass::ReadAfter,
         Trespass::WriteBefore,
         Trespass::WriteAfter,
         Trespass::WriteShown,
+        Trespass::LoadBefore,
+        Trespass::LoadAfter,
+        Trespass::LoadShown,
     ];
 
     /// Lets the library touch one octet that is not lent to it, or write to one that is only shown.
-    /// Where this comes back, nothing guards.
+    /// Where this comes back, nothing guards. A state that a table is loaded into is written whole.
     pub fn commit(self) {
         // Octets, at most 3: the first octet of a message is their count.
         const TABLE: [u8; 6] = [6, 0, 7, 0, 3, 0];
         const MESSAGE: [u8; 4] = [3, 1, 2, 3];
         const LIST: [i64; 4] = [3, 1, 2, 3];
+        let size = match self {
+            Trespass::LoadBefore | Trespass::LoadAfter | Trespass::LoadShown => STATE_SIZE,
+            _ => MESSAGE.len(),
+        };
         let arena = Arena::new();
-        let (before, after) = (arena.writable.wrapping_sub(1), SIZE - MESSAGE.len() + 1);
+        let (before, after) = (arena.writable.wrapping_sub(1), SIZE - size + 1);
         // SAFETY: all of the message but its last octet fits there.
         let after = unsafe {
             let after = arena.writable.add(after);
@@ -264,13 +275,13 @@ impl Trespass {
             after
         };
         let start = match self {
-            Trespass::ReadBefore | Trespass::WriteBefore => before,
-            Trespass::ReadAfter | Trespass::WriteAfter => after,
-            Trespass::WriteShown => arena.shown.cast_mut(),
+            Trespass::ReadBefore | Trespass::WriteBefore | Trespass::LoadBefore => before,
+            Trespass::ReadAfter | Trespass::WriteAfter | Trespass::LoadAfter => after,
+            Trespass::WriteShown | Trespass::LoadShown => arena.shown.cast_mut(),
         };
         // SAFETY: this is wrong, and the process has to die for it before any harm is done: one
         // octet of the slice lies in a guard, or all of them may only be read.
-        let slice = unsafe { slice::from_raw_parts_mut(start, MESSAGE.len()) };
+        let slice = unsafe { slice::from_raw_parts_mut(start, size) };
         let mut numbers = linked::BEFORE;
         match self {
             Trespass::ReadBefore | Trespass::ReadAfter => {
@@ -278,6 +289,10 @@ impl Trespass {
             }
             Trespass::WriteBefore | Trespass::WriteAfter | Trespass::WriteShown => {
                 linked::write(&TABLE, linked::octets(&LIST), slice, &mut numbers);
+            }
+            Trespass::LoadBefore | Trespass::LoadAfter | Trespass::LoadShown => {
+                let state = slice.try_into().expect("the size of a state");
+                linked::load(state, &TABLE, &mut numbers);
             }
         }
     }

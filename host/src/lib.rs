@@ -4,18 +4,18 @@
 //! |---|---|
 //! | `codec` | answers, and the trait `Codec` that every codec under test implements |
 //! | `linked` | the calls of the static libraries |
-//! | `api` | what a host calls: check, read and write under a lent table |
+//! | `api` | what a host calls: check, read and write under a lent table, load one and read through it |
 //! | `by_name` | the calls by name, for tests |
 //! | `guarded` | memory between guards, where a call that leaves its slices dies |
 //! | `archive` | the static libraries as a codec under test |
 //! | `assemble` | a small assembler for tables |
 //! | `builtin` | the built-in tables, assembled as docs/MESSAGES.md lists their rows |
-//! | `reference` | the independent codec, written from document 01 and tickets 1 and 2 of document 02 alone; also the speed baseline |
+//! | `reference` | the independent codec, written from document 01 and tickets 1 to 3 of document 02 alone; also the speed baseline |
 //! | `mutants` | the reference with one planted fault each |
 //! | `case` | one call with its input, and the outcome of running it on a codec |
 //! | `vectors` | the text format of the case files in `vectors/`, and their runner |
 //! | `outside` | lists with the octets that UPER tools of others gave for them |
-//! | `random` | a seeded generator of tables, lists of values and messages |
+//! | `random` | a seeded generator of tables, states, lists of values and messages |
 //! | `compare` | two codecs on many drawn cases, compared to the last octet |
 //! | `settings` | numbers from the environment, to repeat a test or to make it longer |
 //!

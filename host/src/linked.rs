@@ -1,13 +1,16 @@
 //! The calls of the static libraries, made safe. Beside `guarded` the one file with `unsafe`.
 //!
 //! A slice is given as a pointer to its first element and the count of its elements, the six
-//! numbers of the answer as one pointer. The calls keep no pointer, hold no state, and are proved
-//! to write to the lent slices and the numbers alone, whatever the octets are.
+//! numbers of the answer and a state as one pointer each. The calls keep no pointer, hold no state of
+//! their own, and are proved to write to the lent slices, a state that is loaded and the numbers alone,
+//! whatever the octets are.
 
 #[cfg(not(target_endian = "little"))]
 compile_error!("the libraries take values as eight octets, little-endian, and lists are lent as they stand in memory");
 
 use std::slice;
+
+use crate::codec::StateOctets;
 
 /// An answer as the libraries give it: the refusal's number or 0, its place, the counts of values,
 /// bits and octets, and 0.
@@ -36,6 +39,22 @@ extern "C" {
         values_length: usize,
         output: *mut u8,
         output_length: usize,
+        numbers: *mut Numbers,
+    );
+
+    fn teyolxan_load(
+        state: *mut StateOctets,
+        table: *const u8,
+        table_length: usize,
+        numbers: *mut Numbers,
+    );
+
+    fn teyolxan_read_loaded(
+        state: *const StateOctets,
+        message: *const u8,
+        message_length: usize,
+        values: *mut u8,
+        values_length: usize,
         numbers: *mut Numbers,
     );
 }
@@ -80,6 +99,29 @@ pub fn write(table: &[u8], values: &[u8], output: &mut [u8], numbers: &mut Numbe
     };
 }
 
+#[inline]
+pub fn load(state: &mut StateOctets, table: &[u8], numbers: &mut Numbers) {
+    // SAFETY: pointer and length are those of a live slice; only the state and the numbers, which are
+    // lent to us alone, are written.
+    unsafe { teyolxan_load(state, table.as_ptr(), table.len(), numbers) };
+}
+
+#[inline]
+pub fn read_loaded(state: &StateOctets, message: &[u8], values: &mut [u8], numbers: &mut Numbers) {
+    // SAFETY: the state has its size, pointers and lengths are those of live slices; only `values` and
+    // the numbers, which are lent to us alone, are written.
+    unsafe {
+        teyolxan_read_loaded(
+            state,
+            message.as_ptr(),
+            message.len(),
+            values.as_mut_ptr(),
+            values.len(),
+            numbers,
+        )
+    };
+}
+
 /// A list's octets, in place.
 #[inline]
 pub fn octets(values: &[i64]) -> &[u8] {
@@ -95,10 +137,10 @@ pub fn octets_mut(values: &mut [i64]) -> &mut [u8] {
     unsafe { slice::from_raw_parts_mut(values.as_mut_ptr().cast(), size_of_val(values)) }
 }
 
-/// The calls by name, from the library that is built for tests.
+/// The calls by name, and with values as numbers, from the library that is built for tests.
 #[cfg(feature = "probe")]
 pub mod probe {
-    use super::Numbers;
+    use super::{Numbers, StateOctets};
 
     extern "C" {
         fn probe_read_lm(
@@ -146,6 +188,15 @@ pub mod probe {
             values_count: usize,
             output: *mut u8,
             output_length: usize,
+            numbers: *mut Numbers,
+        );
+
+        fn probe_read_loaded(
+            state: *const StateOctets,
+            message: *const u8,
+            message_length: usize,
+            values: *mut i64,
+            values_count: usize,
             numbers: *mut Numbers,
         );
 
@@ -207,6 +258,28 @@ pub mod probe {
                 values.len(),
                 output.as_mut_ptr(),
                 output.len(),
+                numbers,
+            )
+        };
+    }
+
+    /// Reads through a state, with the values as numbers.
+    #[inline]
+    pub fn read_loaded(
+        state: &StateOctets,
+        message: &[u8],
+        values: &mut [i64],
+        numbers: &mut Numbers,
+    ) {
+        // SAFETY: the state has its size, pointers and lengths are those of live slices; only `values`
+        // and the numbers, which are lent to us alone, are written.
+        unsafe {
+            probe_read_loaded(
+                state,
+                message.as_ptr(),
+                message.len(),
+                values.as_mut_ptr(),
+                values.len(),
                 numbers,
             )
         };

@@ -129,4 +129,65 @@ faults! {
     BitsBeforeWidth,
     /// Bench program: a frame of unknown kind is not counted.
     UnknownKindUncounted,
+    /// Load: a refused load clears the state.
+    RefusedLoadClears,
+    /// Load: a refused load has copied the table's octets.
+    RefusedLoadCopies,
+    /// Load: a table that breaks a rule is loaded.
+    LoadedUnchecked,
+    /// Load: behind a table the rest of a longer one stays.
+    LongerTableKept,
+    /// Load: where no row starts the depths of the table before stay.
+    DepthsKept,
+    /// Load: every row gets the root's depth.
+    RootDepthForAll,
+    /// Load: the last row is not counted.
+    RowsOneShort,
+    /// Load: the count of rows is told as that of values.
+    LoadTellsRows,
+    /// Reading through a state: a message above 65,535 octets is told before no table (13 for 27).
+    LongBeforeNoTable,
+    /// Reading through a state: an empty message is told before no table (2 for 27).
+    EmptyBeforeNoTable,
+    /// Reading through a state: where no table is loaded the value slice stays as it was.
+    NoTableValuesKept,
+    /// Reading through a state: any outcome but 0 stands for a table.
+    AnyOutcomePasses,
+    /// A state made otherwise: a reference to a later row is followed.
+    LaterRowRead,
+    /// A state made otherwise: the depths of rows are not compared.
+    DepthNotCompared,
+    /// A state made otherwise: a row refers to one of the same depth.
+    EqualDepthRead,
+    /// A state made otherwise: a row is read that has no depth.
+    DepthZeroRead,
+    /// A state made otherwise: the root may be deeper than 32.
+    RootOfAnyDepth,
+    /// A state made otherwise: a row has to end inside the stored length.
+    FitsStoredLength,
+    /// A state made otherwise: a row has to have the length that stands in it.
+    HeldLengthTested,
+    /// A state made otherwise: only the low octet of a kind is looked at.
+    HeldKindLowOctet,
+    /// A state made otherwise: a fixed run of 1,025 items is read.
+    HeldRunOneLonger,
+    /// A state made otherwise: open octets are read with a limit of 0.
+    HeldOpenMostZero,
+    /// A state made otherwise: a field with flag 2 is always there.
+    FlagTwoAsAlways,
+    /// A state made otherwise: the room is tested before a row that may not be read (8 for 4).
+    RoomBeforeUnreadable,
+    /// A state made otherwise: the row of a counted run is tested after its length.
+    RunRowAfterLength,
+    /// A state made otherwise: a run of none is read, whatever its row is.
+    EmptyRunRead,
+    /// A state made otherwise: a counted run is refused at its first bit where its row is one that is read
+    /// but refers to another that may not be.
+    RunRowOpened,
+    /// A state made otherwise: the row of an absent field is not tested.
+    AbsentRowNotTested,
+    /// A state made otherwise: the rows of a record are tested one by one, as its fields are read.
+    FieldRowsInTurn,
+    /// A state made otherwise: the rows of all branches are tested before a choice's index.
+    BranchRowsFirst,
 }

@@ -14,11 +14,18 @@
 //! | `element ID HOME` | `here`, `elsewhere` or `unknown` |
 //! | `take BASIS MESSAGE K,K,..` | `ok` or `no:13:0:0`, then `ok:NUMBER:PLACE` or `no:NUMBER:PLACE:0` for each |
 //! | `bench BASIS STREAM` | the text printed, with a bar for each line end |
+//! | `loaded BASIS STEPS` | what each step from a fresh state on told |
+//! | `forged BASIS STATE STEPS` | what each step from this state on told, its octets being anything |
+//! | `stored BASIS TABLE;TABLE;..` | `none`, or `TABLE 1 ROWS DEPTHS`: what a fresh state holds after these loads |
 //!
-//! BASIS is `-` where document 01 alone decides, and else the tickets of document 02 that may, `1` or
-//! `1,2`: a line whose refusal is 20 or above has one of these. TABLE is octets, or `LM` for the
-//! built-in table by name. A refusal is `no NUMBER PLACE 0`; the last cell is kept for a later count of
-//! missing bits.
+//! BASIS is `-` where document 01 alone decides, and else the tickets of document 02 that may, `1`,
+//! `1,2` or `1,2,3`: a line whose refusal is 20 or above has one of these. TABLE is octets, or `LM` for
+//! the built-in table by name. A refusal is `no NUMBER PLACE 0`; the last cell is kept for a later count
+//! of missing bits.
+//!
+//! STEPS are joined by `;`: `L:TABLE` loads, `R:MESSAGE:ROOM` reads. What they told stands in the same
+//! order, joined by `;`: `ok` for a load, `ok:COUNT:BITS:VALUES` for a reading, `no:NUMBER:PLACE:0`.
+//! DEPTHS are `OFFSET/DEPTH` for each row, joined by `,`.
 //!
 //! A value slice is lent with 0 to 7 octets after its values, by the line's number, which a codec
 //! has to ignore or zero.
@@ -26,15 +33,19 @@
 use std::collections::BTreeMap;
 use std::fmt::Write as _;
 
-use crate::case::{Case, Outcome, Table};
-use crate::codec::{value_octets, Answer, Bits, Call, Codec, Element, Part, Refusal, Taken};
+use crate::assemble::state_with;
+use crate::case::{Case, Outcome, Step, Table, Told};
+use crate::codec::{
+    value_octets, Answer, Bits, Call, Codec, Element, Part, Refusal, StateOctets, Taken, FRESH,
+};
 
 /// The case files.
 pub const BASE: &str = include_str!("../vectors/base.txt");
 pub const EDGES: &str = include_str!("../vectors/edges.txt");
 pub const STAGE01: &str = include_str!("../vectors/stage01.txt");
 pub const STAGE02: &str = include_str!("../vectors/stage02.txt");
-pub const FILES: [&str; 4] = [BASE, EDGES, STAGE01, STAGE02];
+pub const LOADED: &str = include_str!("../vectors/loaded.txt");
+pub const FILES: [&str; 5] = [BASE, EDGES, STAGE01, STAGE02, LOADED];
 
 /// A call with the outcome that it has to have.
 #[derive(Clone, Debug)]
@@ -167,7 +178,7 @@ fn parse_line(words: &str, tail: usize) -> Result<(Case, Outcome), String> {
         "element" => false,
         _ => match cells.next()? {
             "-" => false,
-            "1" | "1,2" => true,
+            "1" | "1,2" | "1,2,3" => true,
             cell => {
                 return Err(format!(
                     "{cell} is neither document 01 nor tickets of document 02"
@@ -272,14 +283,116 @@ fn parse_line(words: &str, tail: usize) -> Result<(Case, Outcome), String> {
             cells.0 = "";
             (Case::Bench { stream }, Outcome::Printed(text))
         }
+        "loaded" => steps(FRESH, &mut cells, tail)?,
+        "forged" => {
+            let state = cells.octets()?;
+            let state = state.try_into().map_err(|_| "the state has another size")?;
+            steps(state, &mut cells, tail)?
+        }
+        "stored" => {
+            let case = Case::Load {
+                state: Box::new(FRESH),
+                tables: listed(cells.next()?, octets)?,
+            };
+            (case, Outcome::Stored(stored(&mut cells)?))
+        }
         name => return Err(format!("{name} is no call")),
     };
     cells.end()?;
-    let refusal = parsed.1.refusal();
-    if refusal.is_some_and(|refusal| refusal.number >= Refusal::ROW_PAST_END) && !ticket_1 {
+    let later = |refusal: Option<Refusal>| {
+        refusal.is_some_and(|refusal| refusal.number >= Refusal::ROW_PAST_END)
+    };
+    if !ticket_1 && parsed.1.verdicts().into_iter().any(later) {
         return Err("document 01 has no such refusal".to_string());
     }
     Ok(parsed)
+}
+
+/// The parts of a cell that are joined by `;`.
+fn listed<T>(cell: &str, part: impl FnMut(&str) -> Result<T, String>) -> Result<Vec<T>, String> {
+    cell.split(';').map(part).collect()
+}
+
+/// Steps with a state, and what they told.
+fn steps(state: StateOctets, cells: &mut Cells, tail: usize) -> Result<(Case, Outcome), String> {
+    let steps = listed(cells.next()?, |cell| {
+        match cell.split(':').collect::<Vec<_>>()[..] {
+            ["L", table] => Ok(Step::Load {
+                table: octets(table)?,
+            }),
+            ["R", message, room] => Ok(Step::Read {
+                message: octets(message)?,
+                value_octets: 8 * number::<usize>(room)? + tail,
+            }),
+            _ => Err(format!("{cell} is no step")),
+        }
+    })?;
+    let mut made = steps.iter();
+    let told = listed(cells.next()?, |cell| {
+        let size = match made.next() {
+            Some(Step::Load { .. }) => 0,
+            Some(Step::Read { value_octets, .. }) => *value_octets,
+            None => return Err("more was told than asked".to_string()),
+        };
+        step_told(cell, size)
+    })?;
+    if made.next().is_some() {
+        return Err("less was told than asked".to_string());
+    }
+    let state = Box::new(state);
+    Ok((Case::ReadLoaded { state, steps }, Outcome::Steps(told)))
+}
+
+/// What a step told whose value slice has this size.
+fn step_told(cell: &str, size: usize) -> Result<Told, String> {
+    let (answer, list) = match cell.split(':').collect::<Vec<_>>()[..] {
+        ["ok"] => (Answer::PASSED, Vec::new()),
+        ["ok", count, bits, list] => {
+            let answer = Answer::Accepted {
+                values: number(count)?,
+                bits: number(bits)?,
+                octets: 0,
+            };
+            (answer, value_octets(&values(list)?))
+        }
+        ["no", refused, place, count] => {
+            no_count(count)?;
+            let refusal = Refusal {
+                number: number(refused)?,
+                place: number(place)?,
+            };
+            (refusal.into(), Vec::new())
+        }
+        _ => return Err(format!("{cell} is nothing that a step tells")),
+    };
+    Ok(Told {
+        answer,
+        slice: zeros_after(list, size)?,
+        spoilt: false,
+    })
+}
+
+/// The octets of a state that holds nothing, or this table with so many rows of these depths. The root
+/// is the last row.
+fn stored(cells: &mut Cells) -> Result<Vec<u8>, String> {
+    let table = match cells.next()? {
+        "none" => return Ok(FRESH.to_vec()),
+        cell => octets(cell)?,
+    };
+    let (edition, rows) = (cells.number::<u8>()?, cells.number::<usize>()?);
+    let mut depths = Vec::new();
+    for row in cells.next()?.split(',') {
+        let (offset, depth) = row
+            .split_once('/')
+            .ok_or("a row has an offset and a depth")?;
+        depths.push((number(offset)?, number(depth)?));
+    }
+    match depths.last() {
+        Some(&(root, _)) if (edition, rows) == (1, depths.len()) => {
+            Ok(state_with(&table, &depths, root).to_vec())
+        }
+        _ => Err("the rows are not as many as said, or of an edition".to_string()),
+    }
 }
 
 fn number<N: std::str::FromStr>(cell: &str) -> Result<N, String> {
@@ -445,6 +558,38 @@ pub fn case_text(case: &Case) -> String {
             format!("take 1,2 {} {}", octets_cell(message), widths.join(","))
         }
         Case::Bench { stream } => format!("bench 1,2 {}", octets_cell(stream)),
+        Case::Load { state, tables } => {
+            let tables: Vec<String> = tables.iter().map(|table| octets_cell(table)).collect();
+            let before = match **state {
+                FRESH => String::new(),
+                _ => format!(" (before: {})", octets_cell(&state[..])),
+            };
+            format!("stored 1,2,3 {}{before}", tables.join(";"))
+        }
+        Case::ReadLoaded { state, steps } => {
+            let steps: Vec<String> = steps.iter().map(step_text).collect();
+            let begun = match **state {
+                FRESH => "loaded 1,2,3".to_string(),
+                _ => format!("forged 1,2,3 {}", octets_cell(&state[..])),
+            };
+            format!("{begun} {}", steps.join(";"))
+        }
+    }
+}
+
+fn step_text(step: &Step) -> String {
+    match step {
+        Step::Load { table } => format!("L:{}", octets_cell(table)),
+        Step::Read {
+            message,
+            value_octets,
+        } => {
+            let rest = match value_octets % 8 {
+                0 => String::new(),
+                rest => format!(" (and {rest} octets)"),
+            };
+            format!("R:{}:{}{rest}", octets_cell(message), value_octets / 8)
+        }
     }
 }
 
@@ -457,6 +602,19 @@ pub fn outcome_text(outcome: &Outcome) -> String {
         Outcome::Element(element) => format!("{element:?}"),
         Outcome::Taken(taken) => format!("{taken:?}"),
         Outcome::Printed(text) => text.replace('\n', "|"),
+        Outcome::Stored(state) => octets_cell(state),
+        Outcome::Steps(steps) => {
+            let told = |told: &Told| {
+                let spoilt = if told.spoilt {
+                    ", the state spoilt"
+                } else {
+                    ""
+                };
+                format!("{:?} and {}{spoilt}", told.answer, octets_cell(&told.slice))
+            };
+            let steps: Vec<String> = steps.iter().map(told).collect();
+            steps.join("; ")
+        }
     }
 }
 
@@ -504,6 +662,14 @@ mod tests {
             "check - 04000200 no 1 0 8",
             "read - LM 03 1 ok 2 0 1,2",
             "first - LM 03 1 ok 1 8 1",
+            "loaded 1,2,3 R:00:1;L:04000200 no:27:0:0",
+            "loaded 1,2,3 R:00:1 no:27:0:0;ok",
+            "loaded 1,2,3 R:00 no:27:0:0",
+            "loaded 1,2,3 L:04000200;R:07:0 ok;ok:1:8:7",
+            "loaded - R:00:1 no:27:0:0",
+            "forged 1,2,3 00*6159 R:00:1 no:27:0:0",
+            "stored 1,2,3 04000200 04000200 2 1 0/1",
+            "stored 1,2,3 04000200 04000200 1 1 0",
         ] {
             assert!(parse(line).is_err(), "{line}");
         }

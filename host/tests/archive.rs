@@ -11,7 +11,7 @@ use teyolxan_host::compare::{compare, compare_one, Stats};
 use teyolxan_host::guarded::Guarded;
 use teyolxan_host::reference::REFERENCE;
 use teyolxan_host::settings;
-use teyolxan_host::vectors::{parse, run, Vector, BASE, EDGES, FILES, STAGE01, STAGE02};
+use teyolxan_host::vectors::{parse, run, Vector, BASE, EDGES, FILES, LOADED, STAGE01, STAGE02};
 
 /// Cases for the libraries against the reference; more where the build is optimised.
 const CASES: u64 = if cfg!(debug_assertions) {
@@ -42,7 +42,7 @@ fn passes(codec: &dyn Codec, vectors: &[Vector]) -> [usize; CALLS.len()] {
 fn base() {
     assert_eq!(
         passes(&ARCHIVE, &vectors(BASE)),
-        [458, 1_055, 986, 477, 257, 456, 420, 80]
+        [458, 1_055, 986, 477, 257, 456, 420, 80, 0, 0]
     );
 }
 
@@ -50,7 +50,7 @@ fn base() {
 fn edges() {
     assert_eq!(
         passes(&ARCHIVE, &vectors(EDGES)),
-        [224, 140, 92, 34, 18, 3, 9, 2]
+        [224, 140, 92, 34, 18, 3, 9, 2, 5, 89]
     );
 }
 
@@ -58,7 +58,7 @@ fn edges() {
 fn stage01() {
     assert_eq!(
         passes(&ARCHIVE, &vectors(STAGE01)),
-        [611, 157, 73, 35, 11, 0, 7, 11]
+        [611, 157, 73, 35, 11, 0, 7, 11, 0, 0]
     );
 }
 
@@ -66,7 +66,15 @@ fn stage01() {
 fn stage02() {
     assert_eq!(
         passes(&ARCHIVE, &vectors(STAGE02)),
-        [305, 520, 286, 188, 112, 0, 102, 6]
+        [305, 520, 286, 188, 112, 0, 102, 6, 0, 0]
+    );
+}
+
+#[test]
+fn loaded() {
+    assert_eq!(
+        passes(&ARCHIVE, &vectors(LOADED)),
+        [0, 0, 0, 0, 0, 0, 0, 0, 66, 377]
     );
 }
 

@@ -2,8 +2,8 @@
 
 use std::process::Command;
 
-/// Reading and writing of eight messages in four ways, of three that have no name in two; seven LMs
-/// read straight; four fetches and three checks in two ways.
+/// Reading and writing of eight messages in four ways, of five that have no name in two; all read through
+/// a state, seven LMs read straight; four fetches in two ways; four tables checked in two, and loaded.
 #[test]
 fn each_call_gives_what_it_should() {
     let output = Command::new(env!("CARGO_BIN_EXE_bench"))
@@ -15,8 +15,8 @@ fn each_call_gives_what_it_should() {
         "{}",
         String::from_utf8_lossy(&output.stderr)
     );
-    let messages = 2 * (8 * 4 + 3 * 2) + 7;
+    let messages = 2 * (8 * 4 + 5 * 2) + 13 + 7;
     let asn1c = if cfg!(feature = "asn1c") { 26 } else { 0 };
-    let told = format!("{} calls\n", messages + 4 * 2 + 3 * 2 + asn1c);
+    let told = format!("{} calls\n", messages + 4 * 2 + 4 * 3 + asn1c);
     assert_eq!(String::from_utf8_lossy(&output.stdout), told);
 }

@@ -7,7 +7,7 @@ use std::fs;
 use std::path::{Path, PathBuf};
 use std::process::Command;
 
-use teyolxan_host::api::Refusal;
+use teyolxan_host::api::{Refusal, STATE_SIZE};
 
 const HOST: &str = include_str!("../../docs/HOST.md");
 const TABLES: &str = include_str!("../../docs/TABLES.md");
@@ -22,17 +22,28 @@ fn blocks(language: &str) -> Vec<&'static str> {
         .collect()
 }
 
-/// The last block in a language, with its last line end.
-fn last_block(language: &str) -> String {
+/// The examples in the order in which they stand there; with each is said what it prints.
+const EXAMPLES: [&str; 2] = ["receiver", "host"];
+
+/// The blocks in a language that belong to the examples, with their last line ends: the last ones.
+fn example_blocks(language: &str) -> [String; EXAMPLES.len()] {
     let blocks = blocks(language);
-    let block = blocks.last().expect("a block in this language");
-    format!("{block}\n")
+    let last = blocks.last_chunk().expect("a block for each example");
+    last.map(|block| format!("{block}\n"))
 }
 
 #[test]
 fn the_examples_are_the_files() {
-    assert_eq!(last_block("rust"), include_str!("../examples/host.rs"));
-    assert_eq!(last_block("c"), include_str!("../examples/host.c"));
+    let in_rust = [
+        include_str!("../examples/receiver.rs"),
+        include_str!("../examples/host.rs"),
+    ];
+    let in_c = [
+        include_str!("../examples/receiver.c"),
+        include_str!("../examples/host.c"),
+    ];
+    assert_eq!(example_blocks("rust"), in_rust);
+    assert_eq!(example_blocks("c"), in_c);
 }
 
 /// The declarations stand twice: for themselves, and in the header.
@@ -44,7 +55,7 @@ fn the_declarations_are_those_of_the_header() {
         assert!(HEADER.contains(declaration), "{declaration}");
         count += 1;
     }
-    assert_eq!(count, 3);
+    assert_eq!(count, 5);
 }
 
 /// What a program prints.
@@ -58,15 +69,17 @@ fn printed(program: &Path) -> String {
 
 /// Cargo puts examples beside the folder of its test programs.
 #[test]
-fn the_rust_example_prints_what_is_said() {
+fn the_rust_examples_print_what_is_said() {
     let test = env::current_exe().expect("this program has a path");
     let folder = test.ancestors().nth(2).expect("the folder of the profile");
-    let example = folder.join("examples/host");
-    assert!(
-        example.is_file(),
-        "the example is not built: run `cargo test` without --test, or `cargo build --example host` before"
-    );
-    assert_eq!(printed(&example), last_block("text"));
+    for (name, said) in EXAMPLES.iter().zip(example_blocks("text")) {
+        let example = folder.join("examples").join(name);
+        assert!(
+            example.is_file(),
+            "the example is not built: run `cargo test` without --test, or `cargo build --examples` before"
+        );
+        assert_eq!(printed(&example), said);
+    }
 }
 
 /// Compiles a program without a warning, if the compiler is there.
@@ -93,15 +106,36 @@ fn compiled(compiler: &str, standard: &str, name: &str, sources: &[&Path]) -> Op
 }
 
 #[test]
-fn the_c_example_prints_what_is_said() {
-    let sources = [
-        concat!(env!("CARGO_MANIFEST_DIR"), "/examples/host.c"),
-        concat!(env!("TEYOLXAN_ARCHIVES_FOLDER"), "/libteyolxan.a"),
-    ];
-    let program = compiled("cc", "-std=c99", "host-in-c", &sources.map(Path::new));
-    if let Some(program) = program {
-        assert_eq!(printed(&program), last_block("text"));
+fn the_c_examples_print_what_is_said() {
+    let folder = Path::new(env!("CARGO_MANIFEST_DIR")).join("examples");
+    let library = Path::new(env!("TEYOLXAN_ARCHIVES_FOLDER")).join("libteyolxan.a");
+    for (name, said) in EXAMPLES.iter().zip(example_blocks("text")) {
+        let source = folder.join(name).with_extension("c");
+        let program = compiled(
+            "cc",
+            "-std=c99",
+            &format!("{name}-in-c"),
+            &[&source, &library],
+        );
+        if let Some(program) = program {
+            assert_eq!(printed(&program), said);
+        }
     }
+}
+
+/// The size of a state in Rust is that in C, in the library's own sources, and in the documents.
+#[test]
+fn a_state_has_one_size() {
+    const SOURCE: &str = include_str!("../../crates/loading/src/lib.rt");
+    let defined = format!("\n#define TEYOLXAN_STATE_SIZE {STATE_SIZE}\n");
+    assert!(HEADER.contains(&defined), "the header lacks: {defined}");
+    let constant = format!("\npub const STATE: usize = {STATE_SIZE};\n");
+    assert!(SOURCE.contains(&constant), "the library lacks: {constant}");
+    let said = "a pointer alone, to its 6,160 octets";
+    assert!(
+        STATE_SIZE == 6_160 && HOST.contains(said),
+        "docs/HOST.md lacks: {said}"
+    );
 }
 
 #[test]

@@ -3,7 +3,7 @@
 use teyolxan_host::codec::Call;
 use teyolxan_host::mutants;
 use teyolxan_host::reference::REFERENCE;
-use teyolxan_host::vectors::{parse, run, BASE, EDGES, STAGE01, STAGE02};
+use teyolxan_host::vectors::{parse, run, BASE, EDGES, LOADED, STAGE01, STAGE02};
 
 /// Runs a case file and asks that every case has its outcome.
 fn passes(text: &str) -> usize {
@@ -30,7 +30,7 @@ fn base() {
 
 #[test]
 fn edges() {
-    assert_eq!(passes(EDGES), 535);
+    assert_eq!(passes(EDGES), 629);
 }
 
 #[test]
@@ -41,6 +41,11 @@ fn stage01() {
 #[test]
 fn stage02() {
     assert_eq!(passes(STAGE02), 1_555);
+}
+
+#[test]
+fn loaded() {
+    assert_eq!(passes(LOADED), 443);
 }
 
 /// The cases that were worked out by hand find every fault, without the others.

@@ -1,5 +1,6 @@
 //! A seeded generator, and what is drawn with it: tables that pass the check and tables that nearly
-//! do, lists of values under a passing table, messages, and wrong variants of both.
+//! do, states that nobody loaded, lists of values under a passing table, messages, and wrong variants
+//! of both.
 //!
 //! Lists are drawn together with the bits of each value, so that a message can be put together
 //! without a codec, and spoilt at one item. Most of what is drawn is small.
@@ -8,6 +9,7 @@ mod broken;
 mod large;
 mod lists;
 mod messages;
+mod states;
 mod tables;
 
 pub use large::{large_list, large_lm, large_message};
@@ -16,6 +18,7 @@ pub use messages::{
     frames, lm_list, lm_message, some_message, some_output, some_room, spoilt_message, wrong_bits,
     Spoilt,
 };
+pub use states::{forged_state, message_through};
 pub use tables::{nearly_passing_table, passing_table};
 
 /// The generator splitmix64: small, and the same everywhere.

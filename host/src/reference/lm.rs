@@ -139,15 +139,15 @@ impl<const F: u8> Engine<F> {
     pub(super) fn find_user_data(message: &[u8]) -> Result<(usize, usize), Refusal> {
         Self::lm_tests(message)?;
         let lm = Self::lm();
-        let mut reader = Reader::<Nowhere, F> {
-            table: &lm.octets,
+        let mut reader = Reader::<_, Nowhere, F> {
+            rows: &lm.octets[..],
             message,
             place: 0,
             values: &mut Nowhere,
             count: 0,
         };
-        reader.row(lm.n_header)?;
-        reader.row(lm.t_header)?;
+        reader.referred((), lm.n_header)?;
+        reader.referred((), lm.t_header)?;
         let length = reader.length(0, u32::from(lm.user_data_most))?;
         let start = reader.place / 8;
         reader.octets(length)?;

@@ -1,4 +1,4 @@
-//! The independent codec, written from document 01 and tickets 1 and 2 of document 02 alone: what
+//! The independent codec, written from document 01 and tickets 1 to 3 of document 02 alone: what
 //! other codecs are compared with, and the baseline for their speed.
 //!
 //! No call panics or overflows, whatever it is given. Reading and writing allocate nothing.
@@ -10,8 +10,9 @@
 //! |---|---|
 //! | `table` | the rows, and the check |
 //! | `bits` | widths, and fetching bits |
-//! | `read` | reading under a table |
+//! | `read` | reading, under a table or through a state |
 //! | `write` | writing under a table |
+//! | `loaded` | a table loaded into a state, and the rows of any state |
 //! | `lm` | an LM by name, and its user data |
 //! | `straight` | an LM by name, read without a table |
 //! | `elements` | the known extension elements |
@@ -22,13 +23,14 @@ mod bench;
 mod bits;
 mod elements;
 mod lm;
+mod loaded;
 mod opened;
 mod read;
 pub mod straight;
 mod table;
 mod write;
 
-use crate::codec::{Answer, Bits, Call, Codec, Element, Part, Refusal, Taken};
+use crate::codec::{Answer, Bits, Call, Codec, Element, Part, Refusal, StateOctets, Taken};
 use crate::mutants::Fault;
 
 pub use bits::{index_width, number_width};
@@ -130,13 +132,29 @@ impl<'a> Passed<'a> {
 
     /// Reads the message into the value slice.
     pub fn read_into(self, message: &[u8], values: &mut [i64]) -> Answer {
-        Reference::read_passed(self.table, self.root, message, values)
+        Reference::read_message(self.table, self.root, message, values)
     }
 
     /// Writes the list into the output.
     pub fn write_into(self, values: &[i64], output: &mut [u8]) -> Answer {
         Reference::write_root(self.table, self.root, values, output)
     }
+}
+
+/// Loads a table into a state.
+pub fn load(state: &mut StateOctets, table: &[u8]) -> Answer {
+    Reference::load_table(state, table)
+}
+
+/// Reads through a state into the value slice, whatever the state holds.
+pub fn read_loaded_into(state: &StateOctets, message: &[u8], values: &mut [i64]) -> Answer {
+    Reference::read_state(state, message, values)
+}
+
+/// Reads through a state with room for `room` values.
+pub fn read_loaded(state: &StateOctets, message: &[u8], room: usize) -> (Answer, Vec<i64>) {
+    let mut values = vec![0; room];
+    (read_loaded_into(state, message, &mut values), values)
 }
 
 /// The start and length in octets of an LM's user data.
@@ -241,5 +259,13 @@ impl<const F: u8> Codec for Engine<F> {
 
     fn bench(&self, input: &[u8]) -> String {
         Self::run_bench(input, &[], &[])
+    }
+
+    fn load(&self, state: &mut StateOctets, table: &[u8]) -> Answer {
+        Self::load_table(state, table)
+    }
+
+    fn read_loaded(&self, state: &StateOctets, message: &[u8], values: &mut [u8]) -> Answer {
+        Self::lend(values, |values| Self::read_state(state, message, values))
     }
 }

@@ -1,7 +1,7 @@
-//! Reading under a table.
+//! Reading, under a table that has passed the check or through a state.
 
 use super::bits::{fetch, index_width, number_width};
-use super::table::{branch_row, field_optional, field_row, Row};
+use super::table::{branch_row, field_optional, field_row, word, Row};
 use super::{planted, Engine, MESSAGE_MOST, VARIABLE_BASES};
 use crate::codec::{Answer, Refusal};
 use crate::mutants::Fault;
@@ -79,8 +79,43 @@ impl ValueSlice for Nowhere {
     fn clear_from(&mut self, _index: usize) {}
 }
 
-pub(super) struct Reader<'a, V: ?Sized, const F: u8> {
-    pub(super) table: &'a [u8],
+/// The rows that a message is read under.
+pub(super) trait Rows<'a>: Copy {
+    /// What has to be known of a row when one is looked up that it refers to.
+    type Known: Copy;
+
+    /// The octets in which they stand.
+    fn octets(self) -> &'a [u8];
+
+    /// What is known of the row at this offset as the root, or nothing where it may not be read.
+    fn root(self, at: usize) -> Option<Self::Known>;
+
+    /// The same of the row at `to`, to which another refers.
+    fn referred(self, from: Self::Known, to: usize) -> Option<Self::Known>;
+}
+
+/// A table that has passed the check: every reference leads to a row.
+impl<'a> Rows<'a> for &'a [u8] {
+    type Known = ();
+
+    #[inline]
+    fn octets(self) -> &'a [u8] {
+        self
+    }
+
+    #[inline]
+    fn root(self, _at: usize) -> Option<()> {
+        Some(())
+    }
+
+    #[inline]
+    fn referred(self, (): (), _to: usize) -> Option<()> {
+        Some(())
+    }
+}
+
+pub(super) struct Reader<'a, T, V: ?Sized, const F: u8> {
+    pub(super) rows: T,
     pub(super) message: &'a [u8],
     /// The next item's first bit.
     pub(super) place: usize,
@@ -89,7 +124,7 @@ pub(super) struct Reader<'a, V: ?Sized, const F: u8> {
     pub(super) count: usize,
 }
 
-impl<V: ValueSlice + ?Sized, const F: u8> Reader<'_, V, F> {
+impl<'a, T: Rows<'a>, V: ValueSlice + ?Sized, const F: u8> Reader<'a, T, V, F> {
     fn refusal(&self, number: u32) -> Refusal {
         Refusal::new(number, self.place)
     }
@@ -132,21 +167,79 @@ impl<V: ValueSlice + ?Sized, const F: u8> Reader<'_, V, F> {
         Ok(())
     }
 
-    pub(super) fn row(&mut self, offset: usize) -> Result<(), Refusal> {
-        self.row_of(Row::at(self.table, offset))
+    /// What is known of a row that may be read; in place of any other stands an item that no bits meet.
+    #[inline]
+    fn readable(&self, known: Option<T::Known>) -> Result<T::Known, Refusal> {
+        if planted::<F>(Fault::RoomBeforeUnreadable) && known.is_none() {
+            self.need_room()?;
+        }
+        known.ok_or_else(|| self.refusal(Refusal::NO_BRANCH))
     }
 
-    fn row_of(&mut self, row: Row) -> Result<(), Refusal> {
+    fn root(&mut self, at: usize) -> Result<(), Refusal> {
+        let known = self.readable(self.rows.root(at))?;
+        self.row(known, Row::at(self.rows.octets(), at))
+    }
+
+    /// The row at `to`, to which another refers.
+    pub(super) fn referred(&mut self, from: T::Known, to: usize) -> Result<(), Refusal> {
+        let known = self.readable(self.rows.referred(from, to))?;
+        self.row(known, Row::at(self.rows.octets(), to))
+    }
+
+    /// Refuses a run or a record at its first bit where a row that it refers to may not be read, be it that
+    /// of an absent field or of a run of none. Of a choice, the branch's row is looked at once it is chosen.
+    #[inline]
+    fn open(&self, known: T::Known, row: Row) -> Result<(), Refusal> {
+        let leads = |to: usize| self.readable(self.rows.referred(known, to));
+        match row {
+            Row::CountedRun { .. } if planted::<F>(Fault::RunRowAfterLength) => Ok(()),
+            Row::CountedRun { .. }
+                if planted::<F>(Fault::EmptyRunRead)
+                    && self.bits_left() >= 8
+                    && self.peek(8) == 0 =>
+            {
+                Ok(())
+            }
+            Row::CountedRun { item, .. } if planted::<F>(Fault::RunRowOpened) => {
+                self.open(leads(item)?, Row::at(self.rows.octets(), item))
+            }
+            Row::FixedRun { item, .. } | Row::CountedRun { item, .. } => leads(item).map(drop),
+            Row::Record { .. } if planted::<F>(Fault::FieldRowsInTurn) => Ok(()),
+            Row::Record { fields } => {
+                let mut bits = self.place..8 * self.message.len();
+                fields.iter().try_for_each(|field| {
+                    let absent = planted::<F>(Fault::AbsentRowNotTested)
+                        && field_optional(field)
+                        && bits
+                            .next()
+                            .is_some_and(|bit| fetch(self.message, bit, 1) == 0);
+                    match absent {
+                        true => Ok(()),
+                        false => leads(field_row(field)).map(drop),
+                    }
+                })
+            }
+            Row::Choice { branches } if planted::<F>(Fault::BranchRowsFirst) => branches
+                .iter()
+                .filter_map(branch_row)
+                .try_for_each(|branch| leads(branch).map(drop)),
+            Row::Number { .. } | Row::Variable | Row::Choice { .. } | Row::Octets { .. } => Ok(()),
+        }
+    }
+
+    fn row(&mut self, known: T::Known, row: Row) -> Result<(), Refusal> {
+        self.open(known, row)?;
         match row {
             Row::Number { low, span } => self.number(low, span),
             Row::Variable => self.variable(),
-            Row::FixedRun { count, item } => self.run(count, item),
+            Row::FixedRun { count, item } => self.run(known, count, item),
             Row::CountedRun { most, item } => {
                 let count = self.length(0, most)?;
-                self.run(count, item)
+                self.run(known, count, item)
             }
-            Row::Record { fields } => self.record(fields),
-            Row::Choice { branches } => self.choice(branches),
+            Row::Record { fields } => self.record(known, fields),
+            Row::Choice { branches } => self.choice(known, branches),
             Row::Octets { least, most } => {
                 let length = self.length(least, most)?;
                 self.octets(length)
@@ -220,27 +313,33 @@ impl<V: ValueSlice + ?Sized, const F: u8> Reader<'_, V, F> {
         Ok(length as usize)
     }
 
-    fn run(&mut self, count: usize, item: usize) -> Result<(), Refusal> {
-        let row = Row::at(self.table, item);
+    fn run(&mut self, known: T::Known, count: usize, item: usize) -> Result<(), Refusal> {
+        if count == 0 {
+            return Ok(());
+        }
+        let below = self.readable(self.rows.referred(known, item))?;
+        let row = Row::at(self.rows.octets(), item);
         for _ in 0..count {
-            self.row_of(row)?;
+            self.row(below, row)?;
         }
         Ok(())
     }
 
-    fn record(&mut self, fields: &[[u8; 4]]) -> Result<(), Refusal> {
+    fn record(&mut self, known: T::Known, fields: &[[u8; 4]]) -> Result<(), Refusal> {
         let mut present = 0u32; // a bit for each field, in order from the lowest
         for (index, field) in fields.iter().enumerate() {
-            let there = !field_optional(field) || self.presence()?;
+            let optional = field_optional(field)
+                && !(planted::<F>(Fault::FlagTwoAsAlways) && word(field, 2) != 1);
+            let there = !optional || self.presence()?;
             present |= u32::from(there) << index;
             if planted::<F>(Fault::PresenceBesideField) && there {
-                self.row(field_row(field))?;
+                self.referred(known, field_row(field))?;
                 present = 0;
             }
         }
         for (index, field) in fields.iter().enumerate() {
             if present >> index & 1 == 1 {
-                self.row(field_row(field))?;
+                self.referred(known, field_row(field))?;
             }
         }
         Ok(())
@@ -254,7 +353,7 @@ impl<V: ValueSlice + ?Sized, const F: u8> Reader<'_, V, F> {
         Ok(bit == 1)
     }
 
-    fn choice(&mut self, branches: &[[u8; 2]]) -> Result<(), Refusal> {
+    fn choice(&mut self, known: T::Known, branches: &[[u8; 2]]) -> Result<(), Refusal> {
         let width = if planted::<F>(Fault::IndexWidth) {
             index_width(branches.len() + 1)
         } else {
@@ -266,7 +365,7 @@ impl<V: ValueSlice + ?Sized, const F: u8> Reader<'_, V, F> {
             return Err(self.refusal(Refusal::NO_BRANCH));
         };
         self.keep(index as i64, width)?;
-        self.row(row)
+        self.referred(known, row)
     }
 
     /// Octets are an item each; as many as the message holds and the slice takes go at once.
@@ -320,20 +419,20 @@ impl<const F: u8> Engine<F> {
     }
 
     /// Reads the items and zeroes what they leave of the value slice.
-    pub(super) fn read_root<V: ValueSlice + ?Sized>(
-        table: &[u8],
+    pub(super) fn read_root<'a, V: ValueSlice + ?Sized>(
+        rows: impl Rows<'a>,
         root: usize,
-        message: &[u8],
-        values: &mut V,
+        message: &'a [u8],
+        values: &'a mut V,
     ) -> Answer {
-        let mut reader = Reader::<V, F> {
-            table,
+        let mut reader = Reader::<_, V, F> {
+            rows,
             message,
             place: 0,
             values,
             count: 0,
         };
-        match reader.row(root).and_then(|()| reader.end()) {
+        match reader.root(root).and_then(|()| reader.end()) {
             Ok(()) => {
                 reader.values.clear_from(reader.count);
                 Answer::Accepted {
@@ -350,17 +449,18 @@ impl<const F: u8> Engine<F> {
         }
     }
 
-    pub(super) fn read_passed<V: ValueSlice + ?Sized>(
-        table: &[u8],
+    /// Reads a whole message under these rows.
+    pub(super) fn read_message<'a, V: ValueSlice + ?Sized>(
+        rows: impl Rows<'a>,
         root: usize,
-        message: &[u8],
-        values: &mut V,
+        message: &'a [u8],
+        values: &'a mut V,
     ) -> Answer {
         if let Err(refusal) = Self::message_tests(message) {
             values.clear_from(0);
             return refusal.into();
         }
-        Self::read_root(table, root, message, values)
+        Self::read_root(rows, root, message, values)
     }
 
     pub(super) fn read_values<V: ValueSlice + ?Sized>(
@@ -375,7 +475,7 @@ impl<const F: u8> Engine<F> {
             false => Ok(()),
         };
         match before.and_then(|()| Self::root_for_message(table)) {
-            Ok(root) => Self::read_passed(table, root, message, values),
+            Ok(root) => Self::read_message(table, root, message, values),
             Err(refusal) => {
                 values.clear_from(0);
                 refusal.into()
@@ -389,6 +489,6 @@ impl<const F: u8> Engine<F> {
             return refusal.into();
         }
         let lm = Self::lm();
-        Self::read_root(&lm.octets, lm.root, message, values)
+        Self::read_root(&lm.octets[..], lm.root, message, values)
     }
 }

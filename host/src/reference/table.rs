@@ -8,7 +8,7 @@ use crate::assemble::{kind, RESERVED};
 use crate::codec::{Answer, Refusal};
 use crate::mutants::Fault;
 
-/// A row of a table that passes the check.
+/// A row of a table that passes the check, or one of a state that fits.
 #[derive(Clone, Copy, Debug)]
 pub enum Row<'a> {
     Number {
@@ -40,8 +40,8 @@ pub enum Row<'a> {
 }
 
 impl<'a> Row<'a> {
-    /// The row at this offset, with its numbers as they stand. A passed table has a row of a known
-    /// kind and length there; the kind's high octet is then 0 and is not looked at.
+    /// The row at this offset, with its numbers as they stand. There is a row of a known kind there,
+    /// and all of it; the kind's high octet is then 0 and is not looked at.
     #[inline]
     pub fn at(table: &'a [u8], offset: usize) -> Row<'a> {
         let row = &table[offset..];
@@ -95,10 +95,10 @@ pub fn field_row(field: &[u8; 4]) -> usize {
     usize::from(word(field, 0))
 }
 
-/// Whether a field is optional.
+/// Whether a field is optional. In a passed table the flag is 0 or 1.
 #[inline]
 pub fn field_optional(field: &[u8; 4]) -> bool {
-    word(field, 2) == 1
+    word(field, 2) != 0
 }
 
 /// The row that a branch refers to, or nothing if the branch is reserved.
@@ -189,8 +189,8 @@ fn within(number: u16, bounds: RangeInclusive<u16>) -> Result<(), Part> {
 }
 
 /// The bounds of a count, a limit or m, by the row's kind.
-mod bounds {
-    use super::{least_length, RangeInclusive, LENGTH_MOST};
+pub(super) mod bounds {
+    use super::{kind, least_length, RangeInclusive, LENGTH_MOST};
 
     pub const FIXED_RUN: RangeInclusive<u16> = 1..=1_024;
     pub const COUNTED_RUN: RangeInclusive<u16> = 1..=LENGTH_MOST as u16;
@@ -201,6 +201,18 @@ mod bounds {
     #[inline]
     pub fn octets(kind: u16) -> RangeInclusive<u16> {
         least_length(kind)..=LENGTH_MOST as u16
+    }
+
+    /// Those of a kind; nothing where it has none of these numbers, or is unknown.
+    pub fn of(kind: u16) -> Option<RangeInclusive<u16>> {
+        match kind {
+            kind::FIXED_RUN => Some(FIXED_RUN),
+            kind::COUNTED_RUN => Some(COUNTED_RUN),
+            kind::RECORD => Some(RECORD),
+            kind::CHOICE => Some(CHOICE),
+            kind::OCTETS | kind::OPEN_OCTETS => Some(octets(kind)),
+            _ => None,
+        }
     }
 }
 
@@ -230,7 +242,7 @@ impl<const F: u8> Engine<F> {
 
     /// The offset of the root, or the first row that breaks a rule. One pass over the rows in order:
     /// the depth of a row is known before any row can refer to it.
-    fn find_root(table: &[u8]) -> Result<usize, Refusal> {
+    pub(super) fn find_root(table: &[u8]) -> Result<usize, Refusal> {
         let small = table.len() < TABLE_LEAST && !planted::<F>(Fault::SizeAsRow);
         if small || table.len() > TABLE_MOST {
             return Err(Refusal::new(Refusal::TABLE_SIZE, 0));
@@ -412,18 +424,10 @@ impl<const F: u8> Engine<F> {
             hold(length >= 4, Refusal::WRONG_ROW_LENGTH)?;
         }
         let ends = usize::from(length) <= rest.len();
-        if let (true, true, Some(count)) =
-            (planted::<F>(Fault::NumberBeforeLength), ends, number(2))
-        {
-            let bounds = match kind {
-                kind::FIXED_RUN => bounds::FIXED_RUN,
-                kind::COUNTED_RUN => bounds::COUNTED_RUN,
-                kind::RECORD => bounds::RECORD,
-                kind::CHOICE => bounds::CHOICE,
-                kind::OCTETS | kind::OPEN_OCTETS => bounds::octets(kind),
-                _ => 0..=u16::MAX,
-            };
-            within(count, bounds)?;
+        if planted::<F>(Fault::NumberBeforeLength) && ends {
+            if let (Some(count), Some(bounds)) = (number(2), bounds::of(kind)) {
+                within(count, bounds)?;
+            }
         }
         Ok(())
     }

@@ -4,15 +4,15 @@
 use teyolxan_host::archive::{Archive, CALLS};
 use teyolxan_host::builtin;
 use teyolxan_host::by_name::Name;
-use teyolxan_host::case::{Case, Table};
-use teyolxan_host::codec::{value_octets, Answer, Bits, Call, Codec, Refusal};
+use teyolxan_host::case::{Case, Step, Table};
+use teyolxan_host::codec::{value_octets, Answer, Bits, Call, Codec, Refusal, FRESH};
 use teyolxan_host::compare::{self, compare_one, short, Stats};
 use teyolxan_host::guarded::Guarded;
 use teyolxan_host::random::{
-    allowed_list, large_list, lm_list, nearly_passing_table, passing_table, some_budget,
-    some_message, wrong_list, Drawn, Random,
+    allowed_list, forged_state, large_list, lm_list, message_through, nearly_passing_table,
+    passing_table, some_budget, some_message, wrong_list, Drawn, Random,
 };
-use teyolxan_host::reference::{lm_table, root_of, MESSAGE_MOST, REFERENCE};
+use teyolxan_host::reference::{self, lm_table, root_of, MESSAGE_MOST, REFERENCE};
 use teyolxan_host::vectors::{case_text, octets_cell};
 
 /// The longest slice of octets that is drawn.
@@ -46,6 +46,11 @@ impl Fuzzed {
                 Call::Element => &["probe_element"],
                 Call::Take => &["probe_open", "probe_take"],
                 Call::Bench => &[],
+                Call::Load => &["teyolxan_load"],
+                Call::ReadLoaded if loads(case) => {
+                    &["teyolxan_load", "teyolxan_read_loaded", "probe_read_loaded"]
+                }
+                Call::ReadLoaded => &["teyolxan_read_loaded", "probe_read_loaded"],
             },
             Fuzzed::ByName(name, case) => match (name, case.call()) {
                 (Name::Lm, _) => &[], // a call that both codecs make as it is
@@ -90,6 +95,12 @@ impl Fuzzed {
             }
         }
     }
+}
+
+/// Whether a table is loaded.
+fn loads(case: &Case) -> bool {
+    let load = |step: &Step| matches!(step, Step::Load { .. });
+    matches!(case, Case::ReadLoaded { steps, .. } if steps.iter().any(load))
 }
 
 /// The libraries, with calls by name in place of those under a lent table.
@@ -138,8 +149,43 @@ pub fn draw(random: &mut Random) -> Fuzzed {
     match random.below(32) {
         0..=15 => Fuzzed::Case(compare::draw(random, &CALLS)),
         16 => draw_take(random),
+        17..=20 => draw_state(random),
         _ => draw_any(random),
     }
+}
+
+/// Loads and readings through any state, with slices of any lengths.
+fn draw_state(random: &mut Random) -> Fuzzed {
+    let (table, drawn) = list_under(random, some_table);
+    let state = match random.below(4) {
+        0 => Box::new(FRESH),
+        1 => {
+            let octets = some_octets(random, FRESH.len());
+            octets.try_into().expect("as many octets as a state has")
+        }
+        _ => forged_state(random),
+    };
+    let mut held = state.clone();
+    let mut steps = Vec::new();
+    for _ in 0..1 + random.below(3) {
+        let value_octets = some_size(random, 8 * drawn.items.len());
+        steps.push(match random.below(4) {
+            0 => {
+                reference::load(&mut held, &table);
+                let table = table.clone();
+                Step::Load { table }
+            }
+            1 => Step::Read {
+                message: message_under(random, &table, &drawn),
+                value_octets,
+            },
+            _ => Step::Read {
+                message: message_through(random, &held, value_octets / 8),
+                value_octets,
+            },
+        });
+    }
+    Fuzzed::Case(Case::ReadLoaded { state, steps })
 }
 
 fn draw_take(random: &mut Random) -> Fuzzed {

@@ -24,16 +24,22 @@ pub struct Structure {
     pointer: NonNull<c_void>,
 }
 
+/// The number of a kind in host/asn1c/calls.c, or nothing where the module doesn't have it.
+pub fn number_of(kind: Kind) -> Option<c_int> {
+    match kind {
+        Kind::Lm => Some(0),
+        Kind::Sam => Some(1),
+        Kind::OctetNumbers => Some(2),
+        Kind::TwoOctetNumbers => Some(3),
+        Kind::BitThenOctets => Some(4),
+        Kind::TenRows | Kind::TenRowsOfMany => None,
+    }
+}
+
 impl Structure {
     /// Nothing where the octets are no such message.
     pub fn decode(kind: Kind, message: &[u8]) -> Option<Structure> {
-        let kind = match kind {
-            Kind::Lm => 0,
-            Kind::Sam => 1,
-            Kind::OctetNumbers => 2,
-            Kind::TwoOctetNumbers => 3,
-            Kind::BitThenOctets => 4,
-        };
+        let kind = number_of(kind)?;
         // SAFETY: pointer and length are those of a live slice, which is only read.
         let pointer = unsafe { asn1c_decode(kind, message.as_ptr(), message.len()) };
         NonNull::new(pointer).map(|pointer| Structure { kind, pointer })

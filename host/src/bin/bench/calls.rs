@@ -3,7 +3,7 @@
 
 use std::hint::black_box;
 
-use teyolxan_host::api;
+use teyolxan_host::api::{self, State};
 use teyolxan_host::by_name::{self, Name};
 use teyolxan_host::codec::Answer;
 use teyolxan_host::reference::{self, straight, Opened, Passed};
@@ -12,11 +12,12 @@ use teyolxan_host::reference::{self, straight, Opened, Passed};
 use crate::asn1c;
 use crate::subjects::{Job, Kind, Message, Subject};
 
-/// Who makes the call. A lent table is checked in the call, any other is known beforehand; straight
-/// Rust has none.
+/// Who makes the call. A lent table is checked in the call, a loaded one was before, any other is known
+/// to pass; straight Rust has none.
 #[derive(Clone, Copy, Debug, PartialEq, Eq)]
 pub enum Way {
     Ours,
+    OursLoaded,
     OursLent,
     Rust,
     RustLent,
@@ -28,12 +29,18 @@ impl Way {
     /// The columns of a job's table.
     pub fn of(job: Job) -> Vec<Way> {
         let mut ways = match job {
-            Job::Read | Job::Write => vec![Way::Ours, Way::OursLent, Way::Rust, Way::RustLent],
-            Job::Take | Job::Check => vec![Way::Ours, Way::Rust],
+            Job::Read => vec![
+                Way::Ours,
+                Way::OursLoaded,
+                Way::OursLent,
+                Way::Rust,
+                Way::RustLent,
+                Way::Straight,
+            ],
+            Job::Write => vec![Way::Ours, Way::OursLent, Way::Rust, Way::RustLent],
+            Job::Take => vec![Way::Ours, Way::Rust],
+            Job::Check => vec![Way::Ours, Way::OursLoaded, Way::Rust],
         };
-        if job == Job::Read {
-            ways.push(Way::Straight);
-        }
         if cfg!(feature = "asn1c") && job != Job::Check {
             ways.push(Way::Asn1c);
         }
@@ -44,6 +51,8 @@ impl Way {
         match (self, job) {
             (Way::Ours, Job::Read | Job::Write) => "ours by name",
             (Way::Rust, Job::Read | Job::Write) => "Rust by name",
+            (Way::OursLoaded, Job::Check) => "ours loading",
+            (Way::OursLoaded, _) => "ours loaded",
             (Way::Ours, _) => "ours",
             (Way::Rust, _) => "Rust",
             (Way::OursLent, _) => "ours lent",
@@ -81,6 +90,13 @@ fn passed(table: &[u8]) -> Passed<'static> {
     Passed::new(table.to_vec().leak()).expect("a built-in table passes the check")
 }
 
+/// A state with a table in it.
+fn loaded(table: &[u8]) -> Box<State> {
+    let mut state = Box::new(State::fresh());
+    assert_eq!(state.load(table), Answer::PASSED);
+    state
+}
+
 // ---- Reading ---------------------------------------------------------------------------------
 
 fn read(message: &Message, way: Way) -> Option<Work> {
@@ -90,6 +106,12 @@ fn read(message: &Message, way: Way) -> Option<Work> {
             let name = message.kind.name()?;
             reading(message, move |octets, values| {
                 by_name::read(name, octets, values)
+            })
+        }
+        Way::OursLoaded => {
+            let state = loaded(&table);
+            reading(message, move |octets, values| {
+                black_box(&state).read(octets, values)
             })
         }
         Way::OursLent => reading(message, move |octets, values| {
@@ -156,7 +178,7 @@ fn write(message: &Message, way: Way) -> Option<Work> {
         Way::RustLent => writing(message, move |values, output| {
             reference::write_into(black_box(&table), values, output)
         }),
-        Way::Straight => None,
+        Way::Straight | Way::OursLoaded => None,
         Way::Asn1c => asn1c_writing(message),
     }
 }
@@ -233,7 +255,7 @@ fn take(width: u32, way: Way) -> Option<Work> {
             })
         }
         Way::Asn1c => asn1c_taking(width),
-        Way::OursLent | Way::RustLent | Way::Straight => None,
+        Way::OursLoaded | Way::OursLent | Way::RustLent | Way::Straight => None,
     }
 }
 
@@ -250,6 +272,12 @@ fn taking(width: u32, mut call: impl FnMut() -> u64 + 'static) -> Option<Work> {
 fn check(table: Vec<u8>, way: Way) -> Option<Work> {
     let call = match way {
         Way::Ours => api::check,
+        Way::OursLoaded => {
+            let mut state = loaded(&table);
+            return Some(repeated(move || {
+                black_box(&mut state).load(black_box(&table))
+            }));
+        }
         Way::Rust => reference::check,
         _ => return None,
     };
@@ -262,6 +290,7 @@ fn check(table: Vec<u8>, way: Way) -> Option<Work> {
 /// A structure is built on the heap and freed.
 #[cfg(feature = "asn1c")]
 fn asn1c_reading(message: &Message) -> Option<Work> {
+    asn1c::number_of(message.kind)?;
     asn1c_tried(message);
     let (kind, octets) = (message.kind, message.octets.clone());
     Some(repeated(move || {
@@ -272,6 +301,7 @@ fn asn1c_reading(message: &Message) -> Option<Work> {
 /// A structure that was decoded before.
 #[cfg(feature = "asn1c")]
 fn asn1c_writing(message: &Message) -> Option<Work> {
+    asn1c::number_of(message.kind)?;
     let structure = asn1c_tried(message);
     let mut output = vec![0; message.output];
     Some(repeated(move || structure.encode(black_box(&mut output))))

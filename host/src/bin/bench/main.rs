@@ -1,6 +1,6 @@
-//! What the calls cost, side by side: ours by name and with a lent table, the independent codec in
-//! Rust the same two ways, an LM reader in Rust without a table, and asn1c's code in C where it is
-//! linked. `host/bench` runs it.
+//! What the calls cost, side by side: ours by name, with a loaded table and with a lent one, the
+//! independent codec in Rust by name and lent, an LM reader in Rust without a table, and asn1c's code in
+//! C where it is linked. `host/bench` runs it.
 //!
 //! - `bench` prints markdown tables of instructions and of times;
 //! - `bench times` prints those of times alone;
@@ -19,24 +19,28 @@ mod tables;
 
 use calls::{prepare, Way};
 use subjects::Job;
-use tables::{print_table, summary};
+use tables::{limits, print_table, summary};
 
-/// The tables of times, with those of instructions or without, and what the times come to.
+/// The tables of times, with those of instructions or without, and what they come to.
 fn print_tables(counts: bool) {
     try_all();
-    let mut times = Vec::new();
+    let (mut times, mut counted) = (Vec::new(), Vec::new());
     for job in Job::ALL {
         if counts {
-            print_table(job, "instructions a call", measure::instructions);
+            let measured = print_table(job, "instructions a call", measure::instructions);
+            counted.extend(measured.lines);
         }
-        let ratios = print_table(job, "nanoseconds a call", |job, _, subject| {
+        let measured = print_table(job, "nanoseconds a call", |job, _, subject| {
             measure::times(job, subject)
         });
         if matches!(job, Job::Read | Job::Write) {
-            times.extend(ratios);
+            times.extend(measured.ratios);
         }
     }
     println!("\n{}", summary(&times));
+    if counts {
+        println!("\n{}", limits(&counted));
+    }
 }
 
 /// The tables of instructions and of times, as far as there is something to count with.

@@ -4,7 +4,12 @@ use teyolxan_host::assemble::Assembler;
 use teyolxan_host::builtin;
 use teyolxan_host::by_name::Name;
 use teyolxan_host::codec::Answer;
-use teyolxan_host::reference::{self, BENCH_ROOM, LENGTH_MOST};
+use teyolxan_host::reference::{self, BENCH_ROOM, LENGTH_MOST, TABLE_MOST};
+
+/// The titles of messages that the summary names.
+pub const P1: &str = "P1";
+pub const TEN_ROWS: &str = "ten rows";
+pub const TEN_ROWS_OF_MANY: &str = "ten rows of many";
 
 #[derive(Clone, Copy, Debug, PartialEq, Eq)]
 pub enum Job {
@@ -22,7 +27,7 @@ impl Job {
             Job::Read => "Reading a message",
             Job::Write => "Writing a message",
             Job::Take => "Fetching bits",
-            Job::Check => "Checking a table",
+            Job::Check => "Checking and loading a table",
         }
     }
 
@@ -44,6 +49,7 @@ impl Job {
                 ("LM", builtin::lm()),
                 ("SAM", builtin::sam()),
                 ("SRM", builtin::srm()),
+                (TEN_ROWS_OF_MANY, Kind::TenRowsOfMany.table()),
             ]
             .map(|(title, table)| Subject::Table { title, table })
             .into(),
@@ -73,7 +79,7 @@ impl Subject {
     }
 }
 
-/// The kinds of messages. Runs of numbers, and octets behind a bit, have no call by name.
+/// The kinds of messages. Runs of numbers, octets behind a bit, and ten rows have no call by name.
 #[derive(Clone, Copy, Debug, PartialEq, Eq)]
 pub enum Kind {
     Lm,
@@ -81,6 +87,9 @@ pub enum Kind {
     OctetNumbers,
     TwoOctetNumbers,
     BitThenOctets,
+    /// Nine octets, with a table of just the rows for them, and with one that is as long as may be.
+    TenRows,
+    TenRowsOfMany,
 }
 
 impl Kind {
@@ -89,6 +98,7 @@ impl Kind {
             Kind::Lm => Some(Name::Lm),
             Kind::Sam => Some(Name::Sam),
             Kind::OctetNumbers | Kind::TwoOctetNumbers | Kind::BitThenOctets => None,
+            Kind::TenRows | Kind::TenRowsOfMany => None,
         }
     }
 
@@ -99,6 +109,8 @@ impl Kind {
             Kind::OctetNumbers => run_table(255),
             Kind::TwoOctetNumbers => run_table(65_535),
             Kind::BitThenOctets => shifted_table(),
+            Kind::TenRows => ten_rows(0),
+            Kind::TenRowsOfMany => ten_rows(TABLE_MOST),
         }
     }
 }
@@ -117,6 +129,22 @@ fn shifted_table() -> Vec<u8> {
     let bit = table.number(0, 1);
     let octets = table.octets(LENGTH_MOST as u16);
     table.record(&[(bit, false), (octets, false)]);
+    table.finish()
+}
+
+/// A table whose root needs ten rows, itself and nine numbers; others stand between, so that it has
+/// this size at least.
+fn ten_rows(size: usize) -> Vec<u8> {
+    const ROOT: usize = 6 + 4 * 9;
+    let mut table = Assembler::new();
+    let fields = [(); 9].map(|()| (table.number(0, 255), false));
+    while table.len() + ROOT < size {
+        match (size - table.len() - ROOT) % 4 {
+            0 => table.variable(),
+            _ => table.octets(1),
+        };
+    }
+    table.record(&fields);
     table.finish()
 }
 
@@ -193,14 +221,14 @@ fn shifted_octets(length: i64) -> Vec<i64> {
     values
 }
 
-fn messages() -> [Message; 11] {
-    use Kind::{BitThenOctets, Lm, OctetNumbers, Sam, TwoOctetNumbers};
+fn messages() -> [Message; 13] {
+    use Kind::{BitThenOctets, Lm, OctetNumbers, Sam, TenRows, TenRowsOfMany, TwoOctetNumbers};
 
     let p1 = vec![0, 0, 3, 0, 0, 32, 2, 72, 105];
     let p2 = vec![2, 0, 3, 1, 3, 1, 0, 1, 2, 0];
     let p3 = vec![0, 1, 3, 1, 15, 1, 172, 0, 0, 0, 0];
     [
-        ("P1", Lm, p1),
+        (P1, Lm, p1),
         ("P2", Lm, p2),
         ("P3", Lm, p3),
         ("LM, ten elements", Lm, lm_of_elements(10, 20)),
@@ -219,6 +247,8 @@ fn messages() -> [Message; 11] {
             BitThenOctets,
             shifted_octets(1_400),
         ),
+        (TEN_ROWS, TenRows, (1..=9).collect()),
+        (TEN_ROWS_OF_MANY, TenRowsOfMany, (1..=9).collect()),
     ]
     .map(|(title, kind, values)| Message::new(title, kind, values))
 }

@@ -1,11 +1,35 @@
-//! What was measured, in markdown: a table for each job and unit, and what the times come to.
+//! What was measured, in markdown: a table for each job and unit, what the times come to, and whether
+//! the counts stay below their limits.
+
+use teyolxan_host::api::STATE_SIZE;
 
 use crate::calls::Way;
 use crate::measure::Cost;
-use crate::subjects::{Job, Subject};
+use crate::subjects::{Job, Subject, P1, TEN_ROWS, TEN_ROWS_OF_MANY};
 
 /// A ratio up to this is close.
 const CLOSE: f64 = 1.1;
+
+/// The most that reading P1 through a state may cost, divided by reading it lent.
+const LOADED_BY_LENT: f64 = 0.65;
+/// The most that reading through a state may cost under a long table, divided by a short one with the
+/// same rows below its root.
+const LONG_BY_SHORT: f64 = 1.02;
+/// The most instructions that loading a table may cost beside checking it, for each octet of the state.
+const LOADING_OF_OCTET: f64 = 1.5;
+
+/// What a table tells beside what it prints.
+pub struct Measured {
+    pub ratios: Vec<Ratio>,
+    pub lines: Vec<Line>,
+}
+
+/// What the calls of a line cost.
+pub struct Line {
+    job: Job,
+    subject: String,
+    costs: Vec<(Way, f64)>,
+}
 
 /// A ratio of a table: what one of our ways costs, divided by what another costs.
 pub struct Ratio {
@@ -20,6 +44,7 @@ impl Ratio {
     /// How our call was given its table.
     fn form(&self) -> &'static str {
         match self.ours {
+            Way::OursLoaded => "loaded",
             Way::OursLent => "lent",
             _ => "by name",
         }
@@ -33,6 +58,8 @@ fn ratios(job: Job) -> Vec<(&'static str, Way, Way)> {
             ("by name / asn1c", Way::Ours, Way::Asn1c),
             ("by name / Rust", Way::Ours, Way::Rust),
             ("by name / straight", Way::Ours, Way::Straight),
+            ("loaded / asn1c", Way::OursLoaded, Way::Asn1c),
+            ("loaded / lent", Way::OursLoaded, Way::OursLent),
             ("lent / asn1c", Way::OursLent, Way::Asn1c),
             ("lent / Rust", Way::OursLent, Way::RustLent),
         ],
@@ -107,12 +134,12 @@ fn print_heading(job: Job, unit: &str, titles: &[&str]) {
     println!("|---|{}", "--:|".repeat(titles.len() - 1));
 }
 
-/// Prints a job's table, and gives its ratios; `row` gives a line's cost for each of the ways.
+/// Prints a job's table, and gives its ratios and lines; `row` gives a line's cost for each of the ways.
 pub fn print_table(
     job: Job,
     unit: &str,
     row: impl Fn(Job, usize, &Subject) -> Vec<Option<Cost>>,
-) -> Vec<Ratio> {
+) -> Measured {
     let ways = Way::of(job);
     let at = |way: Way| ways.iter().position(|&other| other == way);
     let columns: Vec<(&str, usize, usize)> = ratios(job)
@@ -125,13 +152,21 @@ pub fn print_table(
     titles.extend(ways.iter().map(|way| way.title(job)));
     titles.extend(columns.iter().map(|&(title, _, _)| title));
     print_heading(job, unit, &titles);
-    let mut all = Vec::new();
+    let (mut all, mut lines) = (Vec::new(), Vec::new());
     for (index, subject) in job.subjects().iter().enumerate() {
         let costs = row(job, index, subject);
         let mut cells = vec![subject.title()];
         cells.extend(sizes_of(subject).into_iter().map(grouped));
         let numbers = costs.iter().map(|cost| cost.as_ref().map(Cost::number));
-        cells.extend(numbers.map(|number| cell(number, shown)));
+        cells.extend(numbers.clone().map(|number| cell(number, shown)));
+        let costs_of_ways = ways.iter().zip(numbers);
+        lines.push(Line {
+            job,
+            subject: subject.title(),
+            costs: costs_of_ways
+                .filter_map(|(&way, number)| Some((way, number?)))
+                .collect(),
+        });
         for &(_, ours, other) in &columns {
             let ratio = ratio_of(&costs, ours, other);
             cells.push(cell(ratio, shown_ratio));
@@ -144,7 +179,51 @@ pub fn print_table(
         }
         println!("| {} |", cells.join(" | "));
     }
-    all
+    Measured { ratios: all, lines }
+}
+
+/// Whether the instructions of loaded tables stay below their limits.
+pub fn limits(counts: &[Line]) -> String {
+    let cost = |job: Job, subject: &str, way: Way| {
+        let line = counts
+            .iter()
+            .find(|line| line.job == job && line.subject == subject);
+        let costs = &line.expect("the line is counted").costs;
+        let found = costs.iter().find(|(other, _)| *other == way);
+        found.expect("the way is counted").1
+    };
+    let read = |subject: &str, way: Way| cost(Job::Read, subject, way);
+    let by_lent = read(P1, Way::OursLoaded) / read(P1, Way::OursLent);
+    let by_short = read(TEN_ROWS_OF_MANY, Way::OursLoaded) / read(TEN_ROWS, Way::OursLoaded);
+    let loading: Vec<(&str, f64)> = counts
+        .iter()
+        .filter(|line| line.job == Job::Check)
+        .map(|line| {
+            let loading = cost(Job::Check, &line.subject, Way::OursLoaded);
+            let checking = cost(Job::Check, &line.subject, Way::Ours);
+            (line.subject.as_str(), loading - checking)
+        })
+        .collect();
+    let most = LOADING_OF_OCTET * STATE_SIZE as f64;
+    let listed: Vec<String> = loading
+        .iter()
+        .map(|(table, more)| format!("{} ({table})", shown(*more)))
+        .collect();
+    let kept = by_lent <= LOADED_BY_LENT
+        && by_short <= LONG_BY_SHORT
+        && loading.iter().all(|&(_, more)| more <= most);
+    format!(
+        "Limits in instructions: reading {P1}, loaded / lent, {by_lent:.2} of {LOADED_BY_LENT}; reading \
+         loaded, {TEN_ROWS_OF_MANY} / {TEN_ROWS}, {by_short:.2} of {LONG_BY_SHORT}; loading less checking, {} \
+         of {}. {}",
+        listed.join(", "),
+        shown(most),
+        if kept {
+            "All are kept."
+        } else {
+            "**Not all are kept.**"
+        },
+    )
 }
 
 /// What the times of reading and writing come to.
@@ -202,6 +281,43 @@ mod tests {
             ours,
             other,
             value,
+        }
+    }
+
+    #[test]
+    fn limits_are_told_with_what_they_are_held_to() {
+        let line = |job: Job, subject: &str, costs: &[(Way, f64)]| Line {
+            job,
+            subject: subject.to_string(),
+            costs: costs.to_vec(),
+        };
+        let counts = |loaded: f64, long: f64, loading: f64| {
+            limits(&[
+                line(
+                    Job::Read,
+                    P1,
+                    &[(Way::OursLoaded, loaded), (Way::OursLent, 1_000.0)],
+                ),
+                line(Job::Read, TEN_ROWS, &[(Way::OursLoaded, 500.0)]),
+                line(Job::Read, TEN_ROWS_OF_MANY, &[(Way::OursLoaded, long)]),
+                line(
+                    Job::Check,
+                    "LM",
+                    &[(Way::Ours, 100.0), (Way::OursLoaded, loading)],
+                ),
+            ])
+        };
+        assert_eq!(
+            counts(650.0, 510.0, 9_340.0),
+            "Limits in instructions: reading P1, loaded / lent, 0.65 of 0.65; reading loaded, ten rows of \
+             many / ten rows, 1.02 of 1.02; loading less checking, 9,240 (LM) of 9,240. All are kept."
+        );
+        for counts in [
+            counts(651.0, 500.0, 200.0),
+            counts(500.0, 511.0, 200.0),
+            counts(500.0, 500.0, 9_341.0),
+        ] {
+            assert!(counts.ends_with("**Not all are kept.**"), "{counts}");
         }
     }
 
