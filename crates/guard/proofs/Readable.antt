@@ -1,8 +1,8 @@
 -- What the reader of a row knows of it and of the rows that it refers to, under a table that passed and in any state.
 -- Assumes nothing.
 use Prim.Native.Nat.{ℕ, _+_, _≤_, _<_}
-use mathlib.Core.Bool.{Bool, true, false, _&&_}
-use mathlib.Core.Path.{_≡_, refl, sym, ap, _∙_, fun-ext}
+use mathlib.Core.Bool.{Bool, true, false, _&&_, false≢true}
+use mathlib.Core.Path.{_≡_, refl, sym, ap, _∙_, fun-ext, subst}
 use mathlib.Core.List.{List}
 use native.Mathlib.Omega.{arith}
 use lib.Dec.{leb, eqb}
@@ -25,7 +25,7 @@ use Rattle.encoding.proofs.RowItems.{items-row, asks-number, asks-variable, ask
 use Rattle.encoding.proofs.Guarded.{fits-row, leads-earlier, leads-fits, there-unreserved, no-choice-unreserved, from-leads, from-stays, guarded-row, guarded-never, opens-each, choice-kind-of}
 use Rattle.parts.specs.Parts.{NoChoice, Refers}
 use Rattle.parts.proofs.Choices.{refers-earlier}
-use Rattle.guard.specs.Readable.{isTable, asksAt, asksFrom, Readable, Opened}
+use Rattle.guard.specs.Readable.{isTable, asksAt, asksFrom, Readable, Opened, Tested}
 
 -- ── the two kinds of slices ──
 
@@ -61,6 +61,34 @@ readable-table h s = record { row = row-fits h s; table = λ l. (h, s); state = 
 -- a row that fits its state
 pub readable-state : (t : List ℕ) (o : ℕ) → 6144 ≤ length t → fits t o ≡ true → Readable t o
 readable-state t o l f = record { row = fits-row t o (omega arith) f; table = λ h. absurd (omega arith); state = λ h. (l, f) }
+
+-- ── what is known of the rows that it refers to ──
+
+-- under a table nothing is left to test
+pub tested-table : (t : List ℕ) (o : ℕ) → length t ≤ 4096 → Tested true t o
+tested-table t o l = record { row = λ e m. absurd (omega arith); state = λ e. absurd (false≢true (sym e)) }
+
+pub tested-by : (t : List ℕ) (o : ℕ) → Tested (leb (length t) 4096) t o
+tested-by t o = record { row = λ e m. absurd (omega (arith, leb-true (length t) 4096 e)); state = λ e. leb-false (length t) 4096 e }
+
+-- in a state nothing was tested
+pub untested : (t : List ℕ) (o : ℕ) → 4096 < length t → Tested false t o
+untested t o l = record { row = λ e m. absurd (false≢true e); state = λ e. l }
+
+-- or the row is no choice, and was
+pub tested-open : (t : List ℕ) (o : ℕ) (b : Bool) → 4096 < length t → NoChoice t o → b ≡ opens t o (rowAt t o) → Tested b t o
+tested-open t o b l n e = record { row = λ k m. (n, sym e ∙ k); state = λ k. l }
+
+-- what choices lead to is the row itself, where it is none
+pub tested-on : {b : Bool} {t : List ℕ} {o r : ℕ} → Tested b t o → NoChoice t r → (NoChoice t o → r ≡ o) → Tested b t r
+tested-on {t = t} h n same = record {
+  row = λ e m. let k = h .row e m in (n, subst (λ (x : ℕ). opens t x (rowAt t x) ≡ true) (sym (same (k .0))) (k .1));
+  state = h .state;
+}
+
+-- a row whose references were tested
+pub tested-opened : {t : List ℕ} {o : ℕ} → Readable t o → Tested true t o → Opened t o
+tested-opened h k = record { readable = h; led = λ l. k .row refl l .1 }
 
 -- ── a row ──
 

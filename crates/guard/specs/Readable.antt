@@ -1,7 +1,7 @@
 -- The rows that one reader reads: those of a table that passed the check, and those of a state of any octets. A slice of rows that is
 -- longer than any table is a state. No contract of a public call cites this file.
 use Prim.Native.Nat.{ℕ, _≤_, _<_}
-use mathlib.Core.Bool.{Bool, true, cond}
+use mathlib.Core.Bool.{Bool, true, false, cond}
 use mathlib.Core.Path.{_≡_}
 use mathlib.Core.List.{List}
 use lib.Dec.{leb}
@@ -12,6 +12,7 @@ use Rattle.rules.specs.Rules.{Obeys, Starts}
 use Rattle.items.specs.Items.{Items}
 use Rattle.encoding.specs.Rows.{items, behind}
 use Rattle.encoding.specs.Guarded.{fits, opens, from, guarded}
+use Rattle.parts.specs.Parts.{NoChoice}
 
 -- no longer than a table may be
 abbrev pub isTable : List ℕ → Bool
@@ -35,3 +36,9 @@ pub record Readable (t : List ℕ) (o : ℕ) : Type 0 where
 pub record Opened (t : List ℕ) (o : ℕ) : Type 0 where
   pub readable : Readable t o
   pub led : 4096 < length t → opens t o (rowAt t o) ≡ true
+
+-- what is known of the rows that a row refers to before it is read: in a state they may be known to be readable, where the row is no
+-- choice; under a table nothing is left to test
+pub record Tested (known : Bool) (t : List ℕ) (o : ℕ) : Type 0 where
+  pub row : known ≡ true → 4096 < length t → NoChoice t o × (opens t o (rowAt t o) ≡ true)
+  pub state : known ≡ false → 4096 < length t

@@ -12,6 +12,7 @@ ghost use Rattle.octets.specs.Numbers.{u16};
 ghost use Rattle.answer.specs.Numbers.{noBranch, refusalAt};
 ghost use Rattle.row.specs.Rows.{within, rowAt};
 ghost use Rattle.encoding.specs.Guarded.{fitsAs, fits, heldDepth, leads, opens, enters};
+ghost use Rattle.guard.specs.Readable.{Readable, Tested};
 
 // Whether a row of a kind can be read: it ends inside, and its count is one of its kind's.
 fn kind_fits(state: &[u8], at: usize, kind: usize) -> bool
@@ -104,6 +105,21 @@ pub fn opens(state: &[u8], at: usize) -> bool
         Row::RECORD => record_opens(state, at),
         _ => true,
     }
+}
+
+// Whether the rows that the row at an offset refers to need no test each time that it is read: under a table never, in a state where the
+// row is no choice and they can be read.
+pub fn settled(table: &[u8], at: usize) -> bool
+    requires { ⌜ Readable (now table) at ⌝ }
+    ensures { λ r. ⌜ Tested r (now (table .entry)) at ⌝ }
+{
+    if table.len() <= Row::MOST_TABLE {
+        return true;
+    }
+    if Row::kind_at(table, at) == Row::CHOICE {
+        return false;
+    }
+    opens(table, at)
 }
 
 // The refusal of a row that can't be read, at a place.

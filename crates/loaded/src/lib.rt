@@ -41,7 +41,7 @@ fn read_root(
     if !guard::enters(state, at) {
         return Step::Refused(guard::unreadable(start.place));
     }
-    reader::read_row(state, at, message, values, packed, room, start)
+    reader::read_row(state, at, false, message, values, packed, room, start)
 }
 
 // A message that isn't empty: the root, then the padding.

@@ -28,10 +28,10 @@ Chooses t o message room from values packed (Row row to) =
     Refers t o row × (there row ≡ true) × Continues message room (asksAt t o) from (asksFrom t o row) (stateAt to values packed)
 Chooses t o message room from values packed (ChosenRefused refusal) = Reads message room (asksAt t o) from values packed (StepRefused refusal)
 
--- the choices from the row at o on: refused; or a row that is no choice, none behind o, is left
+-- the choices from the row at o on: refused; or a row that is no choice, none behind o, is left, the row at o if that is none
 abbrev pub Leads : List ℕ → ℕ → List ℕ → ℕ → State → List ℤ → List ℕ → Chosen → Type 0
 Leads t o message room from values packed (Row row to) =
-    Readable t row × (row ≤ o) × NoChoice t row × Continues message room (asksAt t o) from (asksAt t row) (stateAt to values packed)
+    Readable t row × (row ≤ o) × NoChoice t row × (NoChoice t o → row ≡ o) × Continues message room (asksAt t o) from (asksAt t row) (stateAt to values packed)
 Leads t o message room from values packed (ChosenRefused refusal) = Reads message room (asksAt t o) from values packed (StepRefused refusal)
 
 -- ── other rows ──

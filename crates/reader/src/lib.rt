@@ -14,42 +14,53 @@ ghost use Rattle.octets.specs.Numbers.{u16};
 ghost use Rattle.items.specs.Items.{times};
 ghost use Rattle.read_steps.specs.Reads.{Reads, stateAt};
 ghost use Rattle.parts.specs.Parts.{NoChoice, markedFields, fieldIf};
-ghost use Rattle.guard.specs.Readable.{asksAt, asksFrom, Readable, Opened};
+ghost use Rattle.guard.specs.Readable.{asksAt, asksFrom, Readable, Opened, Tested};
 
-// The row at an offset.
+// The row at an offset. Whether the rows that it refers to are known to be readable is told: those of a table are.
 pub fn read_row(
     table: &[u8],
     at: usize,
+    tested: bool,
     message: &[u8],
     values: &mut [i64],
     packed: &mut [u8],
     room: usize,
     cursor: Cursor,
 ) -> Step
-    requires { ⌜ Readable (now table) at × (length (now message) ≤ mostOctets) ⌝ }
+    requires { ⌜ Readable (now table) at × Tested tested (now table) at × (length (now message) ≤ mostOctets) ⌝ }
     ensures { λ r. ⌜ Reads (now (message .entry)) room (asksAt (now (table .entry)) at) (stateAt cursor (now (values .entry)) (now (packed .entry))) (now (values .exit)) (now (packed .exit)) r ⌝ }
 {
     let chosen = read_begin::follow(&*table, at, &*message, values, packed, room, cursor);
     match chosen {
-        Chosen::Row(row, next) => read_chosen(&*table, row, &*message, values, packed, room, next),
+        Chosen::Row(row, next) => read_chosen(
+            &*table,
+            row,
+            tested,
+            &*message,
+            values,
+            packed,
+            room,
+            next,
+        ),
         Chosen::Refused(refusal) => Step::Refused(refusal),
     }
 }
 
-// The row at an offset, which is no choice. In a state the rows that it refers to are tested.
+// The row at an offset, which is no choice. The rows that it refers to are tested, if they are not known to be readable.
 fn read_chosen(
     table: &[u8],
     at: usize,
+    tested: bool,
     message: &[u8],
     values: &mut [i64],
     packed: &mut [u8],
     room: usize,
     cursor: Cursor,
 ) -> Step
-    requires { ⌜ Readable (now table) at × NoChoice (now table) at × (length (now message) ≤ mostOctets) ⌝ }
+    requires { ⌜ Readable (now table) at × NoChoice (now table) at × Tested tested (now table) at × (length (now message) ≤ mostOctets) ⌝ }
     ensures { λ r. ⌜ Reads (now (message .entry)) room (asksAt (now (table .entry)) at) (stateAt cursor (now (values .entry)) (now (packed .entry))) (now (values .exit)) (now (packed .exit)) r ⌝ }
 {
-    if Row::MOST_TABLE < table.len() && !guard::opens(table, at) {
+    if !tested && !guard::opens(table, at) {
         return Step::Refused(guard::unreadable(cursor.place));
     }
     let begun = read_begin::begin(&*table, at, &*message, values, packed, room, cursor);
@@ -90,7 +101,7 @@ fn read_chosen(
     }
 }
 
-// So many times the row at an offset before `at`.
+// So many times the row at an offset before `at`. What it refers to is tested once for all of them.
 fn read_run(
     table: &[u8],
     at: usize,
@@ -105,10 +116,11 @@ fn read_run(
     requires { ⌜ Readable (now table) row × (row < at) × (length (now message) ≤ mostOctets) ⌝ }
     ensures { λ r. ⌜ Reads (now (message .entry)) room (times count (asksAt (now (table .entry)) row)) (stateAt cursor (now (values .entry)) (now (packed .entry))) (now (values .exit)) (now (packed .exit)) r ⌝ }
 {
+    let tested = guard::settled(table, row);
     let mut done = 0;
     let mut here = cursor;
     while done < count {
-        let step = read_row(&*table, row, &*message, values, packed, room, here);
+        let step = read_row(&*table, row, tested, &*message, values, packed, room, here);
         let Step::Past(next) = step else {
             return step;
         };
@@ -190,6 +202,18 @@ fn read_field(
             room,
             cursor,
         ),
-        _ => read_row(&*table, row, &*message, values, packed, room, cursor),
+        _ => {
+            let tested = table.len() <= Row::MOST_TABLE;
+            read_row(
+                &*table,
+                row,
+                tested,
+                &*message,
+                values,
+                packed,
+                room,
+                cursor,
+            )
+        }
     }
 }

@@ -37,7 +37,7 @@ pub fn read_message(
         place: BitPlace(0),
         count: 0,
     };
-    let step = reader::read_row(table, at, message, values, packed, room, start);
+    let step = reader::read_row(table, at, true, message, values, packed, room, start);
     let Step::Past(end) = step else {
         return read_steps::refused(step);
     };

@@ -47,6 +47,7 @@ fn header_values(message: &[u8]) -> usize
     let network = reader::read_row(
         &builtin::LM,
         N_HEADER,
+        true,
         message,
         &mut values,
         &mut packed,
@@ -59,6 +60,7 @@ fn header_values(message: &[u8]) -> usize
     let transport = reader::read_row(
         &builtin::LM,
         T_HEADER,
+        true,
         message,
         &mut values,
         &mut packed,

@@ -9,7 +9,7 @@ use denote.Ref.{now}
 use Rattle.encoding.specs.Guarded.{enters, guardedRoot}
 use Rattle.encoding.proofs.Guarded.{enters-fits}
 use Rattle.loading.specs.State.{heldRoot}
-use Rattle.guard.proofs.Readable.{asks-state, readable-state}
+use Rattle.guard.proofs.Readable.{asks-state, readable-state, untested}
 use Rattle.read_begin.proofs.Beginnings.{never-reads}
 use Rattle.loaded.proofs.read_root.Statement.{statement}
 use Rattle.loaded.proofs.read_root.Tie as tie
@@ -27,7 +27,7 @@ read-row-requires c κs =
     let st = now (s .args .state) in
     let at = c .before .before .before .before .u16-at .result in
     let in-it : enters st at ≡ true = sym (c .before .before .before .enters .ensures) ∙ not-false (c .before .before .before .enters .result) (c .before .before .if1 .left) in
-    (readable-state st at (omega (arith, s .pre .0)) (enters-fits st at in-it), s .pre .1)
+    (readable-state st at (omega (arith, s .pre .0)) (enters-fits st at in-it), untested st at (omega (arith, s .pre .0)), s .pre .1)
 
 returns-2 : tie.Need-returns-2
 unfolding guardedRoot heldRoot

@@ -1,7 +1,7 @@
 -- `read_begin::follow` meets its contract. Invariant: reading the row comes to reading the row that the choices so far lead to, which can
 -- be read.
 -- Assumes nothing.
-use Prim.Native.Nat.{_+_, _≤_, _<_}
+use Prim.Native.Nat.{ℕ, _+_, _≤_, _<_}
 use mathlib.Core.Bool.{true, false}
 use mathlib.Core.Logic.{⊎-elim}
 use mathlib.Core.Path.{_≡_, refl, sym, ap, _∙_}
@@ -10,8 +10,10 @@ use borrow.Author.Needs.{needs}
 use borrow.Author.Tests.{not-true, not-false}
 use denote.Ref.{now}
 use lib.ListN.{length}
+use Rattle.octets.specs.Numbers.{u16}
 use Rattle.encoding.specs.Guarded.{leads}
 use Rattle.encoding.proofs.Guarded.{fits-below}
+use Rattle.parts.specs.Parts.{NoChoice}
 use Rattle.guard.specs.Readable.{asksAt, Readable}
 use Rattle.guard.proofs.Readable.{Reached, reached-table, reached-led, branch-never}
 use Rattle.read_steps.specs.Reads.{stateAt, Continues}
@@ -22,14 +24,14 @@ use Rattle.read_begin.proofs.follow.Tie as tie
 
 abbrev Inv-loop : tie.InvT-loop
 Inv-loop table at message values₀ packed₀ room row₀ here₀ values packed row here =
-    Readable table row × (row ≤ at) × (length values ≡ length values₀) × (length packed ≡ length packed₀)
+    Readable table row × (row ≤ at) × (NoChoice table at → row ≡ at) × (length values ≡ length values₀) × (length packed ≡ length packed₀)
     × Continues message room (asksAt table at) (stateAt here₀ values₀ packed₀) (asksAt table row) (stateAt here values packed)
 
 abbrev μ-loop : tie.MeasureT-loop
 μ-loop table at message values₀ packed₀ room row₀ here₀ values packed row here = row
 
 loop-holds : tie.Need-loop-holds Inv-loop μ-loop
-loop-holds c = (c .before .before .before .pre .0, omega arith, refl, refl, continues-same refl)
+loop-holds c = (c .before .before .before .pre .0, omega arith, (λ n. refl), refl, refl, continues-same refl)
 
 kind-at-requires : tie.Need-kind-at-requires Inv-loop μ-loop
 kind-at-requires c κs = c .loop .inv .0 .row .start
@@ -40,7 +42,7 @@ choose-requires c κs = (c .before .before .before .before .loop .inv .0, sym (c
 returns : tie.Need-returns Inv-loop μ-loop
 returns c =
     let told = c .enum-told .given .1 in
-    rw told (c .before .before .before .before .before .before .before .before .before .before .loop .inv .4 .complete _ _ _ (rw told at (c .before .before .before .before .before .choose .ensures)))
+    rw told (c .before .before .before .before .before .before .before .before .before .before .loop .inv .5 .complete _ _ _ (rw told at (c .before .before .before .before .before .choose .ensures)))
 
 leads-requires : tie.Need-leads-requires Inv-loop μ-loop
 leads-requires c κs =
@@ -55,7 +57,7 @@ returns-2 c =
     let chosen = rw (c .before .before .before .before .before .chosen .given .1) at (c .before .before .before .before .before .before .before .before .before .before .choose .ensures) in
     let apart : leads t (loop .row) (c .before .before .before .before .before .chosen .given .0 .0) ≡ false = sym (c .before .before .leads .ensures) ∙ not-true (c .before .before .leads .result) (c .before .if3 .taken) in
     rw (c .unreadable .ensures)
-    (continues-trans (loop .inv .4) (continues-trans (chosen .2) (continues-same (branch-never t (loop .row) _ (c .before .before .before .if2 .taken) (chosen .1) apart))) .complete _ _ _ (never-reads _))
+    (continues-trans (loop .inv .5) (continues-trans (chosen .2) (continues-same (branch-never t (loop .row) _ (c .before .before .before .if2 .taken) (chosen .1) apart))) .complete _ _ _ (never-reads _))
 
 -- a branch that the loop goes on with
 reached : (c : tie.Joined2 Inv-loop μ-loop) → Reached (now (c .before .before .before .before .before .before .before .before .before .before .before .before .before .before .before .before .args .table)) (c .before .before .before .before .before .before .before .before .before .before .before .before .loop .row) (c .before .before .chosen .given .0 .0)
@@ -75,12 +77,13 @@ loop-again c =
     let loop = c .before .before .before .before .before .before .before .before .before .before .before .before .loop in
     let chosen = rw (c .before .before .chosen .given .1) at (c .before .before .before .before .before .before .before .choose .ensures) in
     let on = reached c in
-    (on .readable, omega (arith, loop .inv .1, on .below), search needs, search needs, continues-trans (loop .inv .4) (continues-trans (chosen .2) (continues-same (on .same))))
+    let kind = sym (c .before .before .before .before .before .before .before .before .before .before .before .kind-at .ensures .0) ∙ c .before .before .before .before .before .before .before .before .before .before .if1 .taken in
+    (on .readable, omega (arith, loop .inv .1, on .below), (λ n. absurd (n (ap (λ (x : ℕ). u16 (now (c .before .before .before .before .before .before .before .before .before .before .before .before .before .before .before .before .args .table)) (x + 2)) (sym (loop .inv .2 n)) ∙ kind))), search needs, search needs, continues-trans (loop .inv .5) (continues-trans (chosen .2) (continues-same (on .same))))
 
 returns-3 : tie.Need-returns-3 Inv-loop μ-loop
 returns-3 c =
     let inv = c .before .before .loop .inv in
-    (inv .0, inv .1, λ e. c .if1 .left (c .before .kind-at .ensures .0 ∙ e), inv .4)
+    (inv .0, inv .1, (λ e. c .if1 .left (c .before .kind-at .ensures .0 ∙ e)), inv .2, inv .5)
 
 pub follow-spec : {M : Type 1} → statement M
 follow-spec =

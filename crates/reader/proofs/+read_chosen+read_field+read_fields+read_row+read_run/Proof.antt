@@ -17,7 +17,7 @@ use Rattle.row.proofs.Fits.{number-fits, record-fits, octets-fits}
 use Rattle.rules.specs.Rules.{references}
 use Rattle.items.specs.Items.{Items, _then_, times}
 use Rattle.guard.specs.Readable.{asksAt, asksFrom, Opened}
-use Rattle.guard.proofs.Readable.{Reached, asks-never, number-asks, variable-asks, octets-asks, reached-opened}
+use Rattle.guard.proofs.Readable.{Reached, asks-never, number-asks, variable-asks, octets-asks, reached-opened, tested-by, tested-on}
 use Rattle.read_steps.specs.Reads.{stateAt, Continues}
 use Rattle.parts.specs.Parts.{markedFields, fieldIf}
 use Rattle.read_steps.proofs.Flow.{continues-trans, continues-same, continues-end, continues-part, refused-part, reads-nothing}
@@ -54,6 +54,7 @@ use Rattle.read_leaf.proofs.octets.Reads as octets-reads
 use Rattle.read_begin.proofs.follow.Reads as follow-reads
 use Rattle.read_begin.proofs.begin.Reads as begin-reads
 use Rattle.guard.proofs.opens.Reads as opens-reads
+use Rattle.guard.proofs.settled.Reads as settled-reads
 use Rattle.guard.proofs.unreadable.Reads as unreadable-reads
 use Rattle.parts.proofs.is_marked.Reads as is-marked-reads
 use Rattle.reader.proofs.+read_chosen+read_field+read_fields+read_row+read_run.{statement}
@@ -124,7 +125,7 @@ abbrev read-row-known : ℕ → read-row-lts.Claims
 read-row-known t = (follow-reads.Asked, follow-reads.Learnt, read-chosen-below t, read-chosen.Post)
 
 abbrev read-run-known : ℕ → read-run-lts.Claims
-read-run-known t = (read-row-below t, read-row.Post)
+read-run-known t = (settled-reads.Asked, settled-reads.Learnt, read-row-below t, read-row.Post)
 
 -- ── one field ──
 
@@ -151,7 +152,7 @@ read-field-octets-requires t c κs =
 read-field-read-row-requires : (t : ℕ) → read-field-lts.Need-read-row-requires (read-field-known t) (read-field-at t) read-field.Post
 read-field-read-row-requires t c κs =
     let s = c .before .before .before .before .before .before .before .before .before in
-    (omega (arith, s .pre .0, s .pre .1 .1), (s .pre .1 .0, s .pre .1 .2))
+    (omega (arith, s .pre .0, s .pre .1 .1), (s .pre .1 .0, tested-by (now (s .args .table)) (s .args .row), s .pre .1 .2))
 
 read-field-returns-2 : (t : ℕ) → read-field-lts.Need-returns-2 (read-field-known t) (read-field-at t) read-field.Post
 read-field-returns-2 t c =
@@ -281,18 +282,18 @@ read-fields-returns-2 t c =
 -- ── a row ──
 
 read-row-follow-requires : (t : ℕ) → read-row-lts.Need-follow-requires (read-row-known t) (read-row-at t) read-row.Post
-read-row-follow-requires t c κs = c .before .before .before .before .before .pre .1
+read-row-follow-requires t c κs = let s = c .before .before .before .before .before in (s .pre .1 .0, s .pre .1 .2)
 
 read-row-read-chosen-requires : (t : ℕ) → read-row-lts.Need-read-chosen-requires (read-row-known t) (read-row-at t) read-row.Post
 read-row-read-chosen-requires t c κs =
     let s = c .before .before .before .before .before .before .before .before .before .before .before .before .before .before in
     let f = rw (c .before .before .before .chosen .given .1) at (c .before .before .before .before .before .before .before .before .follow .ensures) in
-    (omega (arith, s .pre .0, f .1), (f .0, f .2, s .pre .1 .1))
+    (omega (arith, s .pre .0, f .1), (f .0, f .2, tested-on (s .pre .1 .1) (f .2) (f .3), s .pre .1 .2))
 
 read-row-returns : (t : ℕ) → read-row-lts.Need-returns (read-row-known t) (read-row-at t) read-row.Post
 read-row-returns t c =
     let f = rw (c .before .before .before .before .before .before .before .chosen .given .1) at (c .before .before .before .before .before .before .before .before .before .before .before .before .follow .ensures) in
-    f .3 .complete _ _ _ (c .before .before .before .read-chosen .ensures)
+    f .4 .complete _ _ _ (c .before .before .before .read-chosen .ensures)
 
 read-row-returns-2 : (t : ℕ) → read-row-lts.Need-returns-2 (read-row-known t) (read-row-at t) read-row.Post
 read-row-returns-2 t c = rw (c .before .chosen2 .given .1) at (c .before .before .before .before .before .before .follow .ensures)
@@ -300,40 +301,43 @@ read-row-returns-2 t c = rw (c .before .chosen2 .given .1) at (c .before .before
 -- ── a row that is no choice ──
 
 read-chosen-opens-requires : (t : ℕ) → read-chosen-lts.Need-opens-requires (read-chosen-known t) (read-chosen-at t) read-chosen.Post
-read-chosen-opens-requires t c κs = c .before .before .before .before .pre .1 .0 .state (omega (arith, c .if1 .taken))
+read-chosen-opens-requires t c κs = let s = c .before .before .before .before in s .pre .1 .0 .state (s .pre .1 .2 .state (not-true (s .args .tested) (c .if1 .taken)))
 
 read-chosen-returns : (t : ℕ) → read-chosen-lts.Need-returns (read-chosen-known t) (read-chosen-at t) read-chosen.Post
 read-chosen-returns t c =
-    let a = c .before .before .before .before .before .before .before .args in
+    let s = c .before .before .before .before .before .before .before in
+    let a = s .args in
     let apart = sym (c .before .before .opens .ensures) ∙ not-true (c .before .before .opens .result) (c .before .if2 .taken) in
-    rw (asks-never (now (a .table)) (a .at) (omega (arith, c .before .before .before .if1 .taken)) apart, c .unreadable .ensures) (never-reads _)
+    rw (asks-never (now (a .table)) (a .at) (s .pre .1 .2 .state (not-true (a .tested) (c .before .before .before .if1 .taken))) apart, c .unreadable .ensures) (never-reads _)
 
--- past the test of a state
+-- past the test
 opened : (t : ℕ) (c : read-chosen-lts.Joined1 (read-chosen-known t) (read-chosen-at t) read-chosen.Post) → Opened (now (c .before .before .before .before .args .table)) (c .before .before .before .before .args .at)
-opened t c = record {
-  readable = c .before .before .before .before .pre .1 .0;
-  led = λ l. ⊎-elim (λ w. sym (w .1 .ensures) ∙ not-false (w .1 .result) (w .2 .left)) (λ w. absurd (omega (arith, l, w .left))) (c .if1 .came);
-}
+opened t c =
+    let s = c .before .before .before .before in
+    record {
+      readable = s .pre .1 .0;
+      led = λ l. ⊎-elim (λ w. sym (w .1 .ensures) ∙ not-false (w .1 .result) (w .2 .left)) (λ w. s .pre .1 .2 .row (not-false (s .args .tested) (w .left)) l .1) (c .if1 .came);
+    }
 
 read-chosen-begin-requires : (t : ℕ) → read-chosen-lts.Need-begin-requires (read-chosen-known t) (read-chosen-at t) read-chosen.Post
-read-chosen-begin-requires t c κs = let s = c .before .before .before .before .before .before in (opened t (c .before .before), s .pre .1 .1, s .pre .1 .2)
+read-chosen-begin-requires t c κs = let s = c .before .before .before .before .before .before in (opened t (c .before .before), s .pre .1 .1, s .pre .1 .3)
 
 read-chosen-read-run-requires : (t : ℕ) → read-chosen-lts.Need-read-run-requires (read-chosen-known t) (read-chosen-at t) read-chosen.Post
 read-chosen-read-run-requires t c κs =
     let s = c .before .before .before .before .before .before .before .before .before .before .before .before .before .before .before in
     let b = rw (c .before .before .before .begun2 .given .1) at (c .before .before .before .before .before .before .before .before .begin .ensures) in
-    (omega (arith, s .pre .0), (b .0, b .1, s .pre .1 .2))
+    (omega (arith, s .pre .0), (b .0, b .1, s .pre .1 .3))
 
 read-chosen-numbers-requires : (t : ℕ) → read-chosen-lts.Need-numbers-requires (read-chosen-known t) (read-chosen-at t) read-chosen.Post
 read-chosen-numbers-requires t c κs =
     let b = rw (c .before .before .before .begun3 .given .1) at (c .before .before .before .before .before .before .before .before .begin .ensures) in
-    (b .0, c .before .before .before .before .before .before .before .before .before .before .before .before .before .before .before .pre .1 .2)
+    (b .0, c .before .before .before .before .before .before .before .before .before .before .before .before .before .before .before .pre .1 .3)
 
 read-chosen-read-fields-requires : (t : ℕ) → read-chosen-lts.Need-read-fields-requires (read-chosen-known t) (read-chosen-at t) read-chosen.Post
 read-chosen-read-fields-requires t c κs =
     let s = c .before .before .before .before .before .before .before .before .before .before .before .before .before .before .before in
     let b = rw (c .before .before .before .begun4 .given .1) at (c .before .before .before .before .before .before .before .before .begin .ensures) in
-    (omega (arith, s .pre .0), (opened t (c .before .before .before .before .before .before .before .before .before .before .before), b .0, b .1, s .pre .1 .2))
+    (omega (arith, s .pre .0), (opened t (c .before .before .before .before .before .before .before .before .before .before .before), b .0, b .1, s .pre .1 .3))
 
 read-chosen-returns-2 : (t : ℕ) → read-chosen-lts.Need-returns-2 (read-chosen-known t) (read-chosen-at t) read-chosen.Post
 read-chosen-returns-2 t c =
@@ -361,28 +365,31 @@ read-chosen-returns-6 t c = rw (c .before .begun5 .given .1) at (c .before .befo
 -- ── a run ──
 
 abbrev read-run-Inv-loop : read-run-lts.InvT-loop
-read-run-Inv-loop table at row count message values₀ packed₀ room done₀ here₀ values packed done here =
+read-run-Inv-loop table at row count message values₀ packed₀ room tested done₀ here₀ values packed done here =
     (done ≤ count) × (length values ≡ length values₀) × (length packed ≡ length packed₀)
     × Continues message room (times count (asksAt table row)) (stateAt here₀ values₀ packed₀) (times (count - done) (asksAt table row)) (stateAt here values packed)
 
 abbrev read-run-μ-loop : read-run-lts.MeasureT-loop
-read-run-μ-loop table at row count message values₀ packed₀ room done₀ here₀ values packed done here = count - done
+read-run-μ-loop table at row count message values₀ packed₀ room tested done₀ here₀ values packed done here = count - done
+
+read-run-settled-requires : (t : ℕ) → read-run-lts.Need-settled-requires (read-run-known t) (read-run-at t) read-run.Post read-run-Inv-loop read-run-μ-loop
+read-run-settled-requires t c κs = c .before .before .before .pre .1 .0
 
 read-run-loop-holds : (t : ℕ) → read-run-lts.Need-loop-holds (read-run-known t) (read-run-at t) read-run.Post read-run-Inv-loop read-run-μ-loop
 read-run-loop-holds t c =
-    let a = c .before .before .before .args in
+    let a = c .before .before .before .before .args in
     (omega arith, refl, refl, continues-same (ap (λ (n : ℕ). times n (asksAt (now (a .table)) (a .row))) (omega arith)))
 
 read-run-read-row-requires : (t : ℕ) → read-run-lts.Need-read-row-requires (read-run-known t) (read-run-at t) read-run.Post read-run-Inv-loop read-run-μ-loop
 read-run-read-row-requires t c κs =
-    let s = c .before .before .before .before .before .before .before in
-    (omega (arith, s .pre .0, s .pre .1 .1), (s .pre .1 .0, s .pre .1 .2))
+    let s = c .before .before .before .before .before .before .before .before in
+    (omega (arith, s .pre .0, s .pre .1 .1), (s .pre .1 .0, c .before .before .before .before .settled .ensures, s .pre .1 .2))
 
 -- what is left begins with one row
-next-row : (t : ℕ) (c : read-run-lts.In-loop (read-run-known t) (read-run-at t) read-run.Post read-run-Inv-loop read-run-μ-loop) → let a = c .before .before .before .before .before .args in let done = c .before .loop .done in
+next-row : (t : ℕ) (c : read-run-lts.In-loop (read-run-known t) (read-run-at t) read-run.Post read-run-Inv-loop read-run-μ-loop) → let a = c .before .before .before .before .before .before .args in let done = c .before .loop .done in
     times (a .count - done) (asksAt (now (a .table)) (a .row)) ≡ asksAt (now (a .table)) (a .row) then times (a .count - (done + 1)) (asksAt (now (a .table)) (a .row))
 next-row t c =
-    let a = c .before .before .before .before .before .args in
+    let a = c .before .before .before .before .before .before .args in
     let done = c .before .loop .done in
     let more : a .count - done ≡ suc (a .count - (done + 1)) = omega (arith, c .loop-test .taken) in
     times-more (a .count - done) (a .count - (done + 1)) (asksAt (now (a .table)) (a .row)) more
@@ -403,7 +410,7 @@ read-run-loop-again t c =
 
 read-run-returns-2 : (t : ℕ) → read-run-lts.Need-returns-2 (read-run-known t) (read-run-at t) read-run.Post read-run-Inv-loop read-run-μ-loop
 read-run-returns-2 t c =
-    let a = c .before .before .before .before .before .args in
+    let a = c .before .before .before .before .before .before .args in
     let loop = c .before .loop in
     continues-end (continues-trans (loop .inv .3) (continues-same (times-none (a .count - loop .done) (asksAt (now (a .table)) (a .row)) (omega arith))))
 
@@ -496,6 +503,7 @@ pub +read-chosen+read-field+read-fields+read-row+read-run-spec : {M : Type 1} �
     λ t. read-run-lts.spec (read-run-known t) (read-run-at t) read-run.Post
     read-run-Inv-loop
     read-run-μ-loop
+    (read-run-settled-requires t)
     (read-run-loop-holds t)
     (read-run-read-row-requires t)
     (λ c. search needs)

@@ -4,7 +4,7 @@ use Prim.Native.Nat.{_-_}
 use denote.Ref.{now}
 use Rattle.table.specs.Root.{root}
 use Rattle.table.proofs.LastRow.{root-is}
-use Rattle.guard.proofs.Readable.{asks-table, readable-table}
+use Rattle.guard.proofs.Readable.{asks-table, readable-table, tested-table}
 use Rattle.encoding.specs.Rows.{asks}
 use Rattle.read_steps.proofs.Roots.{root-refused, root-read}
 use borrow.Author.Needs.{needs}
@@ -19,7 +19,7 @@ use Rattle.reader.proofs.read_row.Reads as read-row-reads
 read-row-requires : tie.Need-read-row-requires
 read-row-requires c κs =
     let s = c .before .before .before .before .before in
-    (readable-table (s .pre .0) (rw (s .pre .1) (root-is (now (s .args .table)) (s .pre .0) .starts)), s .pre .3)
+    (readable-table (s .pre .0) (rw (s .pre .1) (root-is (now (s .args .table)) (s .pre .0) .starts)), tested-table (now (s .args .table)) (s .args .at) (s .pre .0 .most), s .pre .3)
 
 enum-known-step : tie.Need-enum-known-step
 enum-known-step c = search needs

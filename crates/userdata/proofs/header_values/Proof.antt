@@ -6,7 +6,7 @@ use denote.Ref.{now}
 use lib.IntN.{ℤ}
 use Rattle.encoding.specs.Rows.{items}
 use Rattle.guard.specs.Readable.{asksAt}
-use Rattle.guard.proofs.Readable.{asks-table, readable-table}
+use Rattle.guard.proofs.Readable.{asks-table, readable-table, tested-table}
 use Rattle.read_steps.specs.declared.Step.{Step}
 use Rattle.read_steps.specs.Reads.{State, Reads}
 use Rattle.builtin.specs.Tables.{lm}
@@ -36,7 +36,7 @@ slice-aggregate-read-row-3 c = search needs
 
 read-row-requires : tie.Need-read-row-requires
 unfolding lm
-read-row-requires c κs = (readable-table lm-obeys network-starts, c .before .before .before .before .pre)
+read-row-requires c κs = (readable-table lm-obeys network-starts, tested-table lm 204 (lm-obeys .most), c .before .before .before .before .pre)
 
 enum-known-network : tie.Need-enum-known-network
 enum-known-network c = search needs
@@ -62,7 +62,7 @@ slice-aggregate-read-row-6 c = search needs
 
 read-row-requires-2 : tie.Need-read-row-requires-2
 unfolding lm
-read-row-requires-2 c κs = (readable-table lm-obeys transport-starts, c .before .before .before .before .before .before .before .before .before .before .before .before .before .pre)
+read-row-requires-2 c κs = (readable-table lm-obeys transport-starts, tested-table lm 278 (lm-obeys .most), c .before .before .before .before .before .before .before .before .before .before .before .before .before .pre)
 
 enum-known-transport : tie.Need-enum-known-transport
 enum-known-transport c = search needs
