@@ -107,8 +107,8 @@ pub fn opens(state: &[u8], at: usize) -> bool
     }
 }
 
-// Whether the rows that the row at an offset refers to need no test each time that it is read: under a table never, in a state where the
-// row is no choice and they can be read.
+// Whether the rows that the row at an offset refers to are known to be readable, so that they aren't tested again each time that it is
+// read. Those of a table are; in a state those of a choice aren't, and of any other row they are if they pass the test here.
 pub fn settled(table: &[u8], at: usize) -> bool
     requires { ⌜ Readable (now table) at ⌝ }
     ensures { λ r. ⌜ Tested r (now (table .entry)) at ⌝ }
