@@ -28,7 +28,7 @@ use Rattle.lm.proofs.UserData.{user-data-place}
 use Rattle.lm.proofs.Cases.{given}
 use Rattle.userdata.proofs.Placed.{user-data-placed}
 use Rattle.userdata.proofs.Cases.{user-data-cases}
-use Rattle.teyolxan.proofs.Told.{six-numbers}
+use Rattle.told.proofs.SixNumbers.{six-numbers}
 use Rattle.demands.specs.Demands.{Demands}
 
 pub demands : Demands

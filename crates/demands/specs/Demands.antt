@@ -40,7 +40,7 @@ use Rattle.lm.specs.UserData.{UserDataPlace}
 use Rattle.lm.specs.Cases.{Given}
 use Rattle.userdata.specs.Placed.{UserDataPlaced}
 use Rattle.userdata.specs.Cases.{UserDataCases}
-use Rattle.teyolxan.specs.Told.{SixNumbers}
+use Rattle.told.specs.Told.{SixNumbers}
 
 pub record Demands : Type 1 where
   -- ── demand 2 ──

@@ -9,37 +9,37 @@ use userdata::Found;
 // Reads an LM.
 #[no_mangle]
 pub extern "C" fn probe_read_lm(message: &[u8], values: &mut [i64], numbers: &mut [u64; 6]) {
-    *numbers = teyolxan::numbers::told(messages::read_lm(message, values));
+    *numbers = told::told(messages::read_lm(message, values));
 }
 
 // Reads a SAM.
 #[no_mangle]
 pub extern "C" fn probe_read_sam(message: &[u8], values: &mut [i64], numbers: &mut [u64; 6]) {
-    *numbers = teyolxan::numbers::told(messages::read_sam(message, values));
+    *numbers = told::told(messages::read_sam(message, values));
 }
 
 // Reads an SRM.
 #[no_mangle]
 pub extern "C" fn probe_read_srm(message: &[u8], values: &mut [i64], numbers: &mut [u64; 6]) {
-    *numbers = teyolxan::numbers::told(messages::read_srm(message, values));
+    *numbers = told::told(messages::read_srm(message, values));
 }
 
 // Writes an LM.
 #[no_mangle]
 pub extern "C" fn probe_write_lm(values: &[i64], output: &mut [u8], numbers: &mut [u64; 6]) {
-    *numbers = teyolxan::numbers::told(messages::write_lm(values, output));
+    *numbers = told::told(messages::write_lm(values, output));
 }
 
 // Writes a SAM.
 #[no_mangle]
 pub extern "C" fn probe_write_sam(values: &[i64], output: &mut [u8], numbers: &mut [u64; 6]) {
-    *numbers = teyolxan::numbers::told(messages::write_sam(values, output));
+    *numbers = told::told(messages::write_sam(values, output));
 }
 
 // Writes an SRM.
 #[no_mangle]
 pub extern "C" fn probe_write_srm(values: &[i64], output: &mut [u8], numbers: &mut [u64; 6]) {
-    *numbers = teyolxan::numbers::told(messages::write_srm(values, output));
+    *numbers = told::told(messages::write_srm(values, output));
 }
 
 // Reads through a state, with the values as numbers.
@@ -50,7 +50,7 @@ pub extern "C" fn probe_read_loaded(
     values: &mut [i64],
     numbers: &mut [u64; 6],
 ) {
-    *numbers = teyolxan::numbers::told(loaded::read(state, message, values));
+    *numbers = told::told(loaded::read(state, message, values));
 }
 
 // A known element: 0 here, 1 elsewhere, 2 unknown.
@@ -78,7 +78,7 @@ pub extern "C" fn probe_user_data(message: &[u8], numbers: &mut [u64; 6]) {
 // What opening a message answers.
 #[no_mangle]
 pub extern "C" fn probe_open(message: &[u8], numbers: &mut [u64; 6]) {
-    *numbers = teyolxan::numbers::told(opened::opening(message));
+    *numbers = told::told(opened::opening(message));
 }
 
 // Bits taken at a place of an opened message: the refusal's number, the place after, the bits' number.

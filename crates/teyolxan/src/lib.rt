@@ -1,8 +1,6 @@
 // What a host written in Rust or C calls: check, read and write under a lent table, and load a table once and read through the state
 // that it was loaded into, on plain numbers and octet slices. A value is eight octets, little-endian, two's complement; octets after the
 // last whole eight of a value slice hold none.
-pub mod numbers;
-
 use loading::STATE;
 ghost use mathlib.Core.Path.{_≡_};
 ghost use Prim.Native.Nat.{_/_};
@@ -15,13 +13,13 @@ ghost use Rattle.encoding.specs.Calls.{readCall, writeCall};
 ghost use Rattle.items.specs.Reading.{readAnswer};
 ghost use Rattle.items.specs.Slices.{packedAfter, outputAfter};
 ghost use Rattle.loading.specs.State.{loadedBy, throughState};
-ghost use Rattle.teyolxan.specs.Told.{told};
+ghost use Rattle.told.specs.Told.{told};
 
 #[no_mangle]
 pub extern "C" fn teyolxan_check(table: &[u8], numbers: &mut [u64; 6])
     ensures { λ _. ⌜ now (numbers .exit) ≡ told (checked (verdict (now (table .entry)))) ⌝ }
 {
-    *numbers = numbers::told(table::check(table));
+    *numbers = told::told(table::check(table));
 }
 
 #[no_mangle]
@@ -34,7 +32,7 @@ pub extern "C" fn teyolxan_read(
     ensures { λ _. ⌜ (now (numbers .exit) ≡ told (readCall (now (table .entry)) (now (message .entry)) (length (now (values .entry)) / 8))) × (now (values .exit) ≡ packedAfter (length (now (values .entry))) (readOutcome (now (table .entry)) (now (message .entry)) (length (now (values .entry)) / 8))) ⌝ }
 {
     let answer = codec::read_packed(table, message, values);
-    *numbers = numbers::told(answer);
+    *numbers = told::told(answer);
 }
 
 #[no_mangle]
@@ -47,7 +45,7 @@ pub extern "C" fn teyolxan_write(
     ensures { λ _. ⌜ (now (numbers .exit) ≡ told (writeCall (now (table .entry)) (valuesIn (now (values .entry))) (length (now (output .entry))))) × (now (output .exit) ≡ outputAfter (length (now (output .entry))) (writeOutcome (now (table .entry)) (valuesIn (now (values .entry))) (length (now (output .entry))))) ⌝ }
 {
     let answer = codec::write_packed(table, values, output);
-    *numbers = numbers::told(answer);
+    *numbers = told::told(answer);
 }
 
 #[no_mangle]
@@ -55,7 +53,7 @@ pub extern "C" fn teyolxan_load(state: &mut [u8; STATE], table: &[u8], numbers: 
     ensures { λ _. ⌜ (now (numbers .exit) ≡ told (checked (verdict (now (table .entry))))) × (now (state .exit) ≡ loadedBy (now (state .entry)) (now (table .entry))) ⌝ }
 {
     let answer = loading::load(state, table);
-    *numbers = numbers::told(answer);
+    *numbers = told::told(answer);
 }
 
 #[no_mangle]
@@ -68,5 +66,5 @@ pub extern "C" fn teyolxan_read_loaded(
     ensures { λ _. ⌜ (now (numbers .exit) ≡ told (readAnswer (throughState (now (state .entry)) (now (message .entry)) (length (now (values .entry)) / 8)))) × (now (values .exit) ≡ packedAfter (length (now (values .entry))) (throughState (now (state .entry)) (now (message .entry)) (length (now (values .entry)) / 8))) ⌝ }
 {
     let answer = loaded::read_packed(state, message, values);
-    *numbers = numbers::told(answer);
+    *numbers = told::told(answer);
 }

@@ -1,14 +1,14 @@
 -- `teyolxan::teyolxan_check` meets its contract. By the check's contract.
 -- Assumes nothing.
 use mathlib.Core.Path.{ap, _∙_}
-use Rattle.teyolxan.specs.Told.{told}
+use Rattle.told.specs.Told.{told}
 use borrow.Author.Needs.{needs}
 use Rattle.teyolxan.proofs.teyolxan_check.Statement.{statement}
 use Rattle.teyolxan.proofs.teyolxan_check.Tie as tie
 use Rattle.teyolxan.proofs.teyolxan_check.Reads as reads
 use Rattle.teyolxan.proofs.teyolxan_check.Lts as lts
 use Rattle.table.proofs.check.Reads as check-reads
-use Rattle.teyolxan.proofs.numbers.told.Reads as told-reads
+use Rattle.told.proofs.told.Reads as told-reads
 
 check-requires : tie.Need-check-requires
 check-requires c κs = search needs

@@ -1,14 +1,14 @@
 -- `teyolxan::teyolxan_read` meets its contract. By the contract of reading into octets.
 -- Assumes nothing.
 use mathlib.Core.Path.{ap, _∙_}
-use Rattle.teyolxan.specs.Told.{told}
+use Rattle.told.specs.Told.{told}
 use borrow.Author.Needs.{needs}
 use Rattle.teyolxan.proofs.teyolxan_read.Statement.{statement}
 use Rattle.teyolxan.proofs.teyolxan_read.Tie as tie
 use Rattle.teyolxan.proofs.teyolxan_read.Reads as reads
 use Rattle.teyolxan.proofs.teyolxan_read.Lts as lts
 use Rattle.codec.proofs.read_packed.Reads as read-packed-reads
-use Rattle.teyolxan.proofs.numbers.told.Reads as told-reads
+use Rattle.told.proofs.told.Reads as told-reads
 
 read-packed-requires : tie.Need-read-packed-requires
 read-packed-requires c κs = search needs

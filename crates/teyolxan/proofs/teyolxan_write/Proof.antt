@@ -1,14 +1,14 @@
 -- `teyolxan::teyolxan_write` meets its contract. By the contract of writing from octets.
 -- Assumes nothing.
 use mathlib.Core.Path.{ap, _∙_}
-use Rattle.teyolxan.specs.Told.{told}
+use Rattle.told.specs.Told.{told}
 use borrow.Author.Needs.{needs}
 use Rattle.teyolxan.proofs.teyolxan_write.Statement.{statement}
 use Rattle.teyolxan.proofs.teyolxan_write.Tie as tie
 use Rattle.teyolxan.proofs.teyolxan_write.Reads as reads
 use Rattle.teyolxan.proofs.teyolxan_write.Lts as lts
 use Rattle.codec.proofs.write_packed.Reads as write-packed-reads
-use Rattle.teyolxan.proofs.numbers.told.Reads as told-reads
+use Rattle.told.proofs.told.Reads as told-reads
 
 write-packed-requires : tie.Need-write-packed-requires
 write-packed-requires c κs = search needs

@@ -1,7 +1,7 @@
 // An answer as the numbers that a host is told: a part, for the calls and for the tests in host/.
 use answer::Answer;
 ghost use mathlib.Core.Path.{_≡_};
-ghost use Rattle.teyolxan.specs.Told.{told};
+ghost use Rattle.told.specs.Told.{told};
 
 // The answer as six numbers: the refusal's number, its place, the values, the bits, the octets, and 0.
 pub fn told(answer: Answer) -> [u64; 6]

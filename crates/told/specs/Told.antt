@@ -12,7 +12,7 @@ listed o = o .number ∷ o .place ∷ o .values ∷ o .bits ∷ o .octets ∷ 0 
 abbrev pub told : Answer → List ℕ
 told answer = listed (outcomeOf answer)
 
--- which numbers those are for each outcome. The proof is proofs/Told.antt
+-- which numbers those are for each outcome. The proof is proofs/SixNumbers.antt
 pub record SixNumbers : Type 0 where
   pub accepts : (v b o : ℕ) → told (accepted v b o) ≡ 0 ∷ 0 ∷ v ∷ b ∷ o ∷ 0 ∷ []
   pub refuses : (n p : ℕ) → told (refused n p) ≡ n ∷ p ∷ 0 ∷ 0 ∷ 0 ∷ 0 ∷ []

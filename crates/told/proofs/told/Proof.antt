@@ -1,10 +1,10 @@
--- `teyolxan::numbers::told` meets its contract. By the answer.
+-- `told::told` meets its contract. By the answer.
 -- Assumes nothing.
 use borrow.Author.Needs.{needs}
-use Rattle.teyolxan.proofs.numbers.told.Statement.{statement}
-use Rattle.teyolxan.proofs.numbers.told.Tie as tie
-use Rattle.teyolxan.proofs.numbers.told.Reads as reads
-use Rattle.teyolxan.proofs.numbers.told.Lts as lts
+use Rattle.told.proofs.told.Statement.{statement}
+use Rattle.told.proofs.told.Tie as tie
+use Rattle.told.proofs.told.Reads as reads
+use Rattle.told.proofs.told.Lts as lts
 
 enum-known-answer : tie.Need-enum-known-answer
 enum-known-answer c = search needs
