@@ -28,6 +28,7 @@ use Rattle.lm.proofs.UserData.{user-data-place}
 use Rattle.lm.proofs.Cases.{given}
 use Rattle.userdata.proofs.Placed.{user-data-placed}
 use Rattle.userdata.proofs.Cases.{user-data-cases}
+use Rattle.lm_items.proofs.Same.{same-items}
 use Rattle.told.proofs.SixNumbers.{six-numbers}
 use Rattle.demands.specs.Demands.{Demands}
 
@@ -52,6 +53,7 @@ demands = record {
   bounded = bounded;
   summaries = summaries;
   readingNumbers = reading-numbered;
+  plain = same-items;
   depths = depths;
   ranges = item-ranges;
   width = smallest-width;

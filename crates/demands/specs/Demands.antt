@@ -40,6 +40,7 @@ use Rattle.lm.specs.UserData.{UserDataPlace}
 use Rattle.lm.specs.Cases.{Given}
 use Rattle.userdata.specs.Placed.{UserDataPlaced}
 use Rattle.userdata.specs.Cases.{UserDataCases}
+use Rattle.lm_items.specs.Same.{SameItems}
 use Rattle.told.specs.Told.{SixNumbers}
 
 pub record Demands : Type 1 where
@@ -101,6 +102,9 @@ pub record Demands : Type 1 where
   pub summaries : Summaries
   -- the numbers with which reading refuses, whatever items are asked for
   pub readingNumbers : ReadingNumbered
+  -- ── document 02, ticket 4 ──
+  -- the sections of an LM, which the reader without a table takes one by one, ask for what the table of LM asks for
+  pub plain : SameItems
   -- ── beside the demands ──
   -- how many rows are visited at most, counted over the definitions, and that it may be so many
   pub visits : (t : List ℕ) → Visits t

@@ -43,7 +43,14 @@ fn read_fours(message: &[u8], from: usize, into: u32, fours: usize, values: &mut
 }
 
 // Keeps the octets that begin so many bits into an octet of the message as numbers, as far as the slice reaches.
-fn read_numbers(message: &[u8], from: usize, into: u32, count: usize, values: &mut [i64], at: usize)
+pub fn read_numbers(
+    message: &[u8],
+    from: usize,
+    into: u32,
+    count: usize,
+    values: &mut [i64],
+    at: usize,
+)
     requires { ⌜ (into < 8) × (8 * count ≤ 8 * length (now message) - (8 * from + into)) × (length (now message) ≤ mostOctets) ⌝ }
     ensures { λ _. ⌜ now (values .exit) ≡ storeAll set (now (values .entry)) at (octetValues count (drop (8 * from + into) (unpack (now (message .entry))))) ⌝ }
 {
@@ -93,7 +100,14 @@ fn packed_fours(message: &[u8], from: usize, into: u32, fours: usize, packed: &m
 }
 
 // As read_numbers, each as eight octets.
-fn read_packed(message: &[u8], from: usize, into: u32, count: usize, packed: &mut [u8], at: usize)
+pub fn read_packed(
+    message: &[u8],
+    from: usize,
+    into: u32,
+    count: usize,
+    packed: &mut [u8],
+    at: usize,
+)
     requires { ⌜ (into < 8) × (8 * count ≤ 8 * length (now message) - (8 * from + into)) × (length (now message) ≤ mostOctets) ⌝ }
     ensures { λ _. ⌜ now (packed .exit) ≡ storeAll setValue (now (packed .entry)) at (octetValues count (drop (8 * from + into) (unpack (now (message .entry))))) ⌝ }
 {

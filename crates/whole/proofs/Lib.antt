@@ -1,0 +1,3 @@
+pub mod Octets
+pub mod Cut
+pub mod Aligned
