@@ -1,5 +1,6 @@
 //! Links the static libraries that `rt staticlib` builds from the Rattle crates. They are looked for
-//! in ../target/staticlib, or in the folder that the variable TEYOLXAN_ARCHIVES names. With the
+//! in ../target/staticlib, or in the folder that the variable TEYOLXAN_ARCHIVES names. Where the one
+//! with the calls under tables is among them, the package has the configuration `tables`. With the
 //! feature `asn1c` the benchmark also links the library that `host/bench` builds in target/asn1c.
 
 use std::env;
@@ -10,21 +11,38 @@ fn main() {
         Some(folder) => PathBuf::from(folder),
         None => Path::new(env!("CARGO_MANIFEST_DIR")).with_file_name("target/staticlib"),
     };
-    let mut names = vec!["teyolxan"];
-    if env::var_os("CARGO_FEATURE_PROBE").is_some() {
-        names.push("probe");
-    }
+    let feature = |name: &str| env::var_os(format!("CARGO_FEATURE_{name}")).is_some();
+    let names = archives(feature("TABLES"), feature("LM"), feature("PROBE"));
     println!("cargo::rerun-if-changed=build.rs");
     println!("cargo::rerun-if-env-changed=TEYOLXAN_ARCHIVES");
+    println!("cargo::rustc-check-cfg=cfg(tables)");
+    if names.contains(&TABLES) {
+        println!("cargo::rustc-cfg=tables");
+    }
     for line in instructions(&folder, &names) {
         println!("{line}");
     }
-    if env::var_os("CARGO_FEATURE_ASN1C").is_some() {
+    if feature("ASN1C") {
         let library = Path::new(env!("CARGO_MANIFEST_DIR")).join("target/asn1c/libmessages.a");
         for line in asn1c_instructions(&library) {
             println!("{line}");
         }
     }
+}
+
+/// The library with the calls under tables.
+const TABLES: &str = "teyolxan";
+
+/// The libraries that these features ask for.
+pub fn archives(tables: bool, lm: bool, probe: bool) -> Vec<&'static str> {
+    let asked = [
+        (TABLES, tables || !lm),
+        ("teyolxan_lm", lm),
+        ("probe", probe),
+        ("probe_lm", probe),
+    ];
+    let names = asked.into_iter().filter(|(_, asked)| *asked);
+    names.map(|(name, _)| name).collect()
 }
 
 /// What Cargo is told of asn1c's library: the benchmark alone links it.

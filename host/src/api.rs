@@ -3,14 +3,14 @@
 //! name for each refusal's number, and what it means in a sentence. docs/HOST.md has examples.
 
 use crate::codec::{StateOctets, FRESH};
-use crate::linked::{self, Numbers};
+use crate::linked::{self, answer, tables};
 
 pub use crate::codec::{Answer, Refusal, STATE_SIZE};
 
 /// Whether the table obeys the rules of document 01; if not, its first row that breaks one.
 #[inline]
 pub fn check(table: &[u8]) -> Answer {
-    answer(|numbers| linked::check(table, numbers))
+    answer(|numbers| tables::check(table, numbers))
 }
 
 /// Reads the message into the value slice. Afterwards the slice is the values, then zeros; after a
@@ -31,14 +31,14 @@ pub fn write(table: &[u8], values: &[i64], output: &mut [u8]) -> Answer {
 /// the last whole eight are zeroed.
 #[inline]
 pub fn read_octets(table: &[u8], message: &[u8], values: &mut [u8]) -> Answer {
-    answer(|numbers| linked::read(table, message, values, numbers))
+    answer(|numbers| tables::read(table, message, values, numbers))
 }
 
 /// Writes a list of octets, eight for a value, little-endian, two's complement. Octets after the
 /// last whole eight are ignored.
 #[inline]
 pub fn write_octets(table: &[u8], values: &[u8], output: &mut [u8]) -> Answer {
-    answer(|numbers| linked::write(table, values, output, numbers))
+    answer(|numbers| tables::write(table, values, output, numbers))
 }
 
 /// A table that is checked once, for any number of messages: its octets, and what the check found.
@@ -58,7 +58,7 @@ impl State {
     /// was, and so is the table in it.
     #[inline]
     pub fn load(&mut self, table: &[u8]) -> Answer {
-        answer(|numbers| linked::load(&mut self.0, table, numbers))
+        answer(|numbers| tables::load(&mut self.0, table, numbers))
     }
 
     /// Reads the message under the loaded table, as `api::read` does under a lent one.
@@ -70,7 +70,7 @@ impl State {
     /// The same into a slice of octets, as `api::read_octets` does.
     #[inline]
     pub fn read_octets(&self, message: &[u8], values: &mut [u8]) -> Answer {
-        answer(|numbers| linked::read_loaded(&self.0, message, values, numbers))
+        answer(|numbers| tables::read_loaded(&self.0, message, values, numbers))
     }
 }
 
@@ -78,30 +78,5 @@ impl State {
 impl Default for State {
     fn default() -> State {
         State::fresh()
-    }
-}
-
-/// The answer of a call that tells it in numbers.
-#[inline]
-pub(crate) fn answer(call: impl FnOnce(&mut Numbers)) -> Answer {
-    let mut numbers = linked::BEFORE;
-    call(&mut numbers);
-    told(numbers)
-}
-
-/// The answer that these numbers tell.
-#[inline]
-pub(crate) fn told([number, place, values, bits, octets, _]: Numbers) -> Answer {
-    if number == 0 {
-        Answer::Accepted {
-            values,
-            bits,
-            octets,
-        }
-    } else {
-        Answer::Refused {
-            number: number as u32,
-            place,
-        }
     }
 }

@@ -1,13 +1,13 @@
-//! The codec of the static libraries as a codec under test: the lent calls that a host makes, and
-//! the calls by name.
+//! The static libraries as codecs under test: the lent calls that a host makes with the calls by name,
+//! and the plain LM reader.
 
-use crate::api::told;
 use crate::by_name::{self, Name};
 use crate::codec::{
-    value_octets, values_of, Answer, Bits, Call, Codec, Element, Part, Refusal, StateOctets, Taken,
+    read_as_numbers, values_of, Answer, Bits, Call, Codec, Element, Part, Refusal, StateOctets,
+    Taken,
 };
 use crate::guarded::{InPlace, Memory};
-use crate::linked::{self, probe, Numbers};
+use crate::linked::{self, lm, probe, tables, told, Numbers};
 
 /// The linked libraries, and where the slices of their calls stand.
 pub struct Archive<M = InPlace>(pub M);
@@ -54,18 +54,41 @@ impl<M: Memory> Archive<M> {
         numbers
     }
 
-    /// Reads by name. The call takes whole values; the octets after them are not lent to it.
-    pub fn read_by_name(&self, name: Name, message: &[u8], values: &mut [u8]) -> Answer {
-        let mut list = values_of(values);
-        let numbers = self.0.show(message, |message| {
-            self.0.lend(&mut list, |list| {
-                self.numbers(|numbers| probe::read(name, message, list, numbers))
+    /// Makes a reading that takes values as octets.
+    fn read_octets(
+        &self,
+        message: &[u8],
+        values: &mut [u8],
+        call: impl FnOnce(&[u8], &mut [u8], &mut Numbers),
+    ) -> Answer {
+        exactly(self.0.show(message, |message| {
+            self.0.lend(values, |values| {
+                self.numbers(|numbers| call(message, values, numbers))
             })
-        });
-        let (whole, tail) = values.split_at_mut(8 * list.len());
-        whole.copy_from_slice(&value_octets(&list));
-        tail.fill(0);
-        exactly(numbers)
+        }))
+    }
+
+    /// Makes a reading that takes values as numbers.
+    fn read_numbers(
+        &self,
+        message: &[u8],
+        values: &mut [u8],
+        call: impl FnOnce(&[u8], &mut [i64], &mut Numbers),
+    ) -> Answer {
+        read_as_numbers(values, |list| {
+            exactly(self.0.show(message, |message| {
+                self.0.lend(list, |list| {
+                    self.numbers(|numbers| call(message, list, numbers))
+                })
+            }))
+        })
+    }
+
+    /// Reads by name.
+    pub fn read_by_name(&self, name: Name, message: &[u8], values: &mut [u8]) -> Answer {
+        self.read_numbers(message, values, |message, list, numbers| {
+            probe::read(name, message, list, numbers);
+        })
     }
 
     /// Writes by name.
@@ -112,25 +135,23 @@ impl<M: Memory> Codec for Archive<M> {
 
     fn check(&self, table: &[u8]) -> Answer {
         exactly(self.0.show(table, |table| {
-            self.numbers(|numbers| linked::check(table, numbers))
+            self.numbers(|numbers| tables::check(table, numbers))
         }))
     }
 
     fn read(&self, table: &[u8], message: &[u8], values: &mut [u8]) -> Answer {
-        exactly(self.0.show(table, |table| {
-            self.0.show(message, |message| {
-                self.0.lend(values, |values| {
-                    self.numbers(|numbers| linked::read(table, message, values, numbers))
-                })
+        self.0.show(table, |table| {
+            self.read_octets(message, values, |message, values, numbers| {
+                tables::read(table, message, values, numbers);
             })
-        }))
+        })
     }
 
     fn write(&self, table: &[u8], values: &[u8], output: &mut [u8]) -> Answer {
         exactly(self.0.show(table, |table| {
             self.0.show(values, |values| {
                 self.0.lend(output, |output| {
-                    self.numbers(|numbers| linked::write(table, values, output, numbers))
+                    self.numbers(|numbers| tables::write(table, values, output, numbers))
                 })
             })
         }))
@@ -184,32 +205,54 @@ impl<M: Memory> Codec for Archive<M> {
         exactly(self.0.show(table, |table| {
             self.0.lend(state, |state| {
                 let state = state.try_into().expect("as many octets as before");
-                self.numbers(|numbers| linked::load(state, table, numbers))
+                self.numbers(|numbers| tables::load(state, table, numbers))
             })
         }))
     }
 
     /// Both calls, with values as octets and as numbers: they have to give the same.
     fn read_loaded(&self, state: &StateOctets, message: &[u8], values: &mut [u8]) -> Answer {
-        let mut list = vec![-1; values.len() / 8];
-        let [octets, numbers] = self.0.show(state, |state| {
+        let mut others = vec![0xFF; values.len()];
+        self.0.show(state, |state| {
             let state = state.try_into().expect("as many octets as before");
-            self.0.show(message, |message| {
-                let octets = self.0.lend(values, |values| {
-                    self.numbers(|numbers| linked::read_loaded(state, message, values, numbers))
-                });
-                let numbers = self.0.lend(&mut list, |list| {
-                    self.numbers(|numbers| probe::read_loaded(state, message, list, numbers))
-                });
-                [octets, numbers]
-            })
-        });
-        assert_eq!(numbers, octets, "values as numbers");
-        assert!(
-            values.starts_with(&value_octets(&list)),
-            "values as numbers"
-        );
-        exactly(octets)
+            let answer = self.read_octets(message, values, |message, values, numbers| {
+                tables::read_loaded(state, message, values, numbers);
+            });
+            let other = self.read_numbers(message, &mut others, |message, list, numbers| {
+                probe::read_loaded(state, message, list, numbers);
+            });
+            assert_eq!(other, answer, "values as numbers");
+            assert!(others == values, "values as numbers");
+            answer
+        })
+    }
+}
+
+/// How the plain LM reader is lent the value slice.
+#[derive(Clone, Copy, Debug, PartialEq, Eq)]
+pub enum Values {
+    /// As a host does.
+    Octets,
+    Numbers,
+}
+
+/// The plain LM reader of the libraries as a codec under test.
+pub struct Plain<'a, M = InPlace>(pub Values, pub &'a Archive<M>);
+
+impl<M: Memory> Codec for Plain<'_, M> {
+    fn name(&self) -> String {
+        format!("plain, values as {:?}", self.0).to_lowercase()
+    }
+
+    fn offers(&self, call: Call) -> bool {
+        call == Call::ReadLm
+    }
+
+    fn read_lm(&self, message: &[u8], values: &mut [u8]) -> Answer {
+        match self.0 {
+            Values::Octets => self.1.read_octets(message, values, lm::read),
+            Values::Numbers => self.1.read_numbers(message, values, probe::read_lm_plain),
+        }
     }
 }
 

@@ -1,8 +1,8 @@
-//! The calls by name, through the library that is built for tests. A host lends its tables.
+//! The calls by name, and the plain LM reader with values as numbers, through the library that is built
+//! for tests. A host lends its tables, or reads LMs by `lm`.
 
-use crate::api::answer;
 use crate::codec::{Answer, Bits, Element, Refusal};
-use crate::linked::{probe, BEFORE};
+use crate::linked::{answer, probe, BEFORE};
 
 pub use crate::linked::probe::Name;
 
@@ -16,6 +16,12 @@ pub fn read(name: Name, message: &[u8], values: &mut [i64]) -> Answer {
 #[inline]
 pub fn write(name: Name, values: &[i64], output: &mut [u8]) -> Answer {
     answer(|numbers| probe::write(name, values, output, numbers))
+}
+
+/// Reads an LM without a table into the value slice.
+#[inline]
+pub fn read_lm_plain(message: &[u8], values: &mut [i64]) -> Answer {
+    answer(|numbers| probe::read_lm_plain(message, values, numbers))
 }
 
 /// Takes k bits from an opened message at a place.

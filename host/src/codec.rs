@@ -297,3 +297,14 @@ pub fn values_of(octets: &[u8]) -> Vec<i64> {
         .map(|&value| i64::from_le_bytes(value))
         .collect()
 }
+
+/// Makes a reading into numbers that fills a value slice in the host's form. Octets after the last
+/// whole eight are not lent to it, and are zeroed.
+pub fn read_as_numbers(values: &mut [u8], read: impl FnOnce(&mut [i64]) -> Answer) -> Answer {
+    let mut list = values_of(values);
+    let answer = read(&mut list);
+    let (whole, tail) = values.split_at_mut(8 * list.len());
+    whole.copy_from_slice(&value_octets(&list));
+    tail.fill(0);
+    answer
+}

@@ -1,10 +1,11 @@
-//! Where the slices of a call stand: as they are, or between guards. Beside `linked` the one file
-//! with `unsafe`.
+//! Where the slices of a call stand: as they are, or between guards; and how much stack a call takes.
+//! Beside `linked` the one file with `unsafe`.
 //!
 //! The libraries carry no instrumentation, so no sanitizer sees what they do. Here the memory does:
 //! a guard is memory that may not be touched, and a call that reads or writes one octet beside its
 //! slice dies by a signal, as does one that writes to a slice which it is only shown.
 
+use std::arch::asm;
 use std::cell::{Cell, RefCell};
 use std::ffi::{c_char, c_int, c_long, c_uint, c_void};
 use std::fs::File;
@@ -12,7 +13,7 @@ use std::os::fd::{AsRawFd, FromRawFd};
 use std::{ptr, slice};
 
 use crate::codec::STATE_SIZE;
-use crate::linked;
+use crate::linked::{self, lm, tables};
 use crate::random::Random;
 
 /// Where the slices of a call stand while it runs.
@@ -230,6 +231,41 @@ extern "C" {
     fn munmap(address: *mut c_void, length: usize) -> c_int;
 }
 
+/// The octets of a stack whose use is counted.
+const STACK: usize = 1 << 16;
+
+/// The octets of stack that a call takes, with those of the way to it from here. It is made on a stack of
+/// its own, which holds the same octet everywhere before.
+pub fn stack_of<C: FnOnce()>(call: C) -> usize {
+    extern "C" fn make<C: FnOnce()>(call: &mut Option<C>) {
+        let call = call.take().expect("a call that is not made yet");
+        call();
+    }
+
+    let arena = Arena::new();
+    let mut call = Some(call);
+    // SAFETY: nobody else uses the arena, which has more octets before these. Its end is aligned as that
+    // of a stack, and the call comes back to where it was made; a panic would end the process.
+    let stack = unsafe {
+        let end = arena.writable.add(SIZE);
+        ptr::write_bytes(end.sub(STACK), BESIDE, STACK);
+        asm!(
+            "mov r12, rsp",
+            "mov rsp, {end}",
+            "call {make}",
+            "mov rsp, r12",
+            end = in(reg) end,
+            make = sym make::<C>,
+            in("rdi") &mut call,
+            out("r12") _,
+            clobber_abi("C"),
+        );
+        slice::from_raw_parts(end.sub(STACK), STACK)
+    };
+    let untouched = stack.iter().take_while(|&&octet| octet == BESIDE);
+    STACK - untouched.count()
+}
+
 /// What a guard has to stop.
 #[derive(Clone, Copy, Debug, PartialEq, Eq)]
 pub enum Trespass {
@@ -241,10 +277,15 @@ pub enum Trespass {
     LoadBefore,
     LoadAfter,
     LoadShown,
+    PlainReadBefore,
+    PlainReadAfter,
+    PlainWriteBefore,
+    PlainWriteAfter,
+    PlainWriteShown,
 }
 
 impl Trespass {
-    pub const ALL: [Trespass; 8] = [
+    pub const ALL: [Trespass; 13] = [
         Trespass::ReadBefore,
         Trespass::ReadAfter,
         Trespass::WriteBefore,
@@ -253,15 +294,20 @@ impl Trespass {
         Trespass::LoadBefore,
         Trespass::LoadAfter,
         Trespass::LoadShown,
+        Trespass::PlainReadBefore,
+        Trespass::PlainReadAfter,
+        Trespass::PlainWriteBefore,
+        Trespass::PlainWriteAfter,
+        Trespass::PlainWriteShown,
     ];
 
     /// Lets the library touch one octet that is not lent to it, or write to one that is only shown.
     /// Where this comes back, nothing guards. A state that a table is loaded into is written whole.
     pub fn commit(self) {
-        // Octets, at most 3: the first octet of a message is their count.
+        // Octets, at most 3: the first octet of a message is their count. The message is an LM, too.
         const TABLE: [u8; 6] = [6, 0, 7, 0, 3, 0];
-        const MESSAGE: [u8; 4] = [3, 1, 2, 3];
-        const LIST: [i64; 4] = [3, 1, 2, 3];
+        const MESSAGE: [u8; 4] = [3, 0, 32, 0];
+        const LIST: [i64; 4] = [3, 0, 32, 0];
         let size = match self {
             Trespass::LoadBefore | Trespass::LoadAfter | Trespass::LoadShown => STATE_SIZE,
             _ => MESSAGE.len(),
@@ -277,7 +323,11 @@ impl Trespass {
         let start = match self {
             Trespass::ReadBefore | Trespass::WriteBefore | Trespass::LoadBefore => before,
             Trespass::ReadAfter | Trespass::WriteAfter | Trespass::LoadAfter => after,
-            Trespass::WriteShown | Trespass::LoadShown => arena.shown.cast_mut(),
+            Trespass::PlainReadBefore | Trespass::PlainWriteBefore => before,
+            Trespass::PlainReadAfter | Trespass::PlainWriteAfter => after,
+            Trespass::WriteShown | Trespass::LoadShown | Trespass::PlainWriteShown => {
+                arena.shown.cast_mut()
+            }
         };
         // SAFETY: this is wrong, and the process has to die for it before any harm is done: one
         // octet of the slice lies in a guard, or all of them may only be read.
@@ -285,14 +335,20 @@ impl Trespass {
         let mut numbers = linked::BEFORE;
         match self {
             Trespass::ReadBefore | Trespass::ReadAfter => {
-                linked::read(&TABLE, slice, &mut [0; 32], &mut numbers);
+                tables::read(&TABLE, slice, &mut [0; 32], &mut numbers);
             }
             Trespass::WriteBefore | Trespass::WriteAfter | Trespass::WriteShown => {
-                linked::write(&TABLE, linked::octets(&LIST), slice, &mut numbers);
+                tables::write(&TABLE, linked::octets(&LIST), slice, &mut numbers);
             }
             Trespass::LoadBefore | Trespass::LoadAfter | Trespass::LoadShown => {
                 let state = slice.try_into().expect("the size of a state");
-                linked::load(state, &TABLE, &mut numbers);
+                tables::load(state, &TABLE, &mut numbers);
+            }
+            Trespass::PlainReadBefore | Trespass::PlainReadAfter => {
+                lm::read(slice, &mut [0; 64], &mut numbers);
+            }
+            Trespass::PlainWriteBefore | Trespass::PlainWriteAfter | Trespass::PlainWriteShown => {
+                lm::read(&MESSAGE, slice, &mut numbers)
             }
         }
     }
@@ -300,7 +356,19 @@ impl Trespass {
 
 #[cfg(test)]
 mod tests {
+    use std::hint::black_box;
+
     use super::*;
+
+    #[test]
+    fn the_stack_of_a_call_is_counted() {
+        let little = stack_of(|| ());
+        let much = stack_of(|| {
+            black_box([0u8; 10_000]);
+        });
+        assert!(little < 500, "{little} octets");
+        assert!((10_000..12_000).contains(&much), "{much} octets");
+    }
 
     /// Where a slice does not touch the guard before it, the octets there are looked at.
     #[test]

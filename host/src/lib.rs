@@ -5,9 +5,10 @@
 //! | `codec` | answers, and the trait `Codec` that every codec under test implements |
 //! | `linked` | the calls of the static libraries |
 //! | `api` | what a host calls: check, read and write under a lent table, load one and read through it |
-//! | `by_name` | the calls by name, for tests |
-//! | `guarded` | memory between guards, where a call that leaves its slices dies |
-//! | `archive` | the static libraries as a codec under test |
+//! | `lm` | what the smallest unit calls: an LM read without a table |
+//! | `by_name` | the calls by name, and the others that are for tests |
+//! | `guarded` | memory between guards, where a call that leaves its slices dies; the stack that a call takes |
+//! | `archive` | the static libraries as codecs under test |
 //! | `assemble` | a small assembler for tables |
 //! | `builtin` | the built-in tables, assembled as docs/MESSAGES.md lists their rows |
 //! | `reference` | the independent codec, written from document 01 and tickets 1 to 3 of document 02 alone; also the speed baseline |
@@ -23,6 +24,7 @@
 
 #![deny(unsafe_code)]
 
+#[cfg(tables)]
 pub mod api;
 #[cfg(feature = "probe")]
 pub mod archive;
@@ -38,6 +40,8 @@ pub mod compare;
 pub mod guarded;
 #[allow(unsafe_code)]
 mod linked;
+#[cfg(feature = "lm")]
+pub mod lm;
 pub mod mutants;
 pub mod outside;
 pub mod random;

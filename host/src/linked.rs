@@ -10,7 +10,7 @@ compile_error!("the libraries take values as eight octets, little-endian, and li
 
 use std::slice;
 
-use crate::codec::StateOctets;
+use crate::codec::Answer;
 
 /// An answer as the libraries give it: the refusal's number or 0, its place, the counts of values,
 /// bits and octets, and 0.
@@ -19,110 +19,33 @@ pub type Numbers = [u64; 6];
 /// What the numbers hold before a call, so that one which is not written shows.
 pub const BEFORE: Numbers = [u64::MAX; 6];
 
-extern "C" {
-    fn teyolxan_check(table: *const u8, table_length: usize, numbers: *mut Numbers);
-
-    fn teyolxan_read(
-        table: *const u8,
-        table_length: usize,
-        message: *const u8,
-        message_length: usize,
-        values: *mut u8,
-        values_length: usize,
-        numbers: *mut Numbers,
-    );
-
-    fn teyolxan_write(
-        table: *const u8,
-        table_length: usize,
-        values: *const u8,
-        values_length: usize,
-        output: *mut u8,
-        output_length: usize,
-        numbers: *mut Numbers,
-    );
-
-    fn teyolxan_load(
-        state: *mut StateOctets,
-        table: *const u8,
-        table_length: usize,
-        numbers: *mut Numbers,
-    );
-
-    fn teyolxan_read_loaded(
-        state: *const StateOctets,
-        message: *const u8,
-        message_length: usize,
-        values: *mut u8,
-        values_length: usize,
-        numbers: *mut Numbers,
-    );
+/// The answer of a call that tells it in numbers.
+#[inline]
+pub fn answer(call: impl FnOnce(&mut Numbers)) -> Answer {
+    let mut numbers = BEFORE;
+    call(&mut numbers);
+    told(numbers)
 }
 
+/// The answer that these numbers tell.
 #[inline]
-pub fn check(table: &[u8], numbers: &mut Numbers) {
-    // SAFETY: pointer and length are those of a live slice, and the numbers are lent to us alone.
-    unsafe { teyolxan_check(table.as_ptr(), table.len(), numbers) };
-}
-
-#[inline]
-pub fn read(table: &[u8], message: &[u8], values: &mut [u8], numbers: &mut Numbers) {
-    // SAFETY: pointers and lengths are those of live slices; only `values` and the numbers,
-    // which are lent to us alone, are written.
-    unsafe {
-        teyolxan_read(
-            table.as_ptr(),
-            table.len(),
-            message.as_ptr(),
-            message.len(),
-            values.as_mut_ptr(),
-            values.len(),
-            numbers,
-        )
-    };
-}
-
-#[inline]
-pub fn write(table: &[u8], values: &[u8], output: &mut [u8], numbers: &mut Numbers) {
-    // SAFETY: pointers and lengths are those of live slices; only `output` and the numbers,
-    // which are lent to us alone, are written.
-    unsafe {
-        teyolxan_write(
-            table.as_ptr(),
-            table.len(),
-            values.as_ptr(),
-            values.len(),
-            output.as_mut_ptr(),
-            output.len(),
-            numbers,
-        )
-    };
-}
-
-#[inline]
-pub fn load(state: &mut StateOctets, table: &[u8], numbers: &mut Numbers) {
-    // SAFETY: pointer and length are those of a live slice; only the state and the numbers, which are
-    // lent to us alone, are written.
-    unsafe { teyolxan_load(state, table.as_ptr(), table.len(), numbers) };
-}
-
-#[inline]
-pub fn read_loaded(state: &StateOctets, message: &[u8], values: &mut [u8], numbers: &mut Numbers) {
-    // SAFETY: the state has its size, pointers and lengths are those of live slices; only `values` and
-    // the numbers, which are lent to us alone, are written.
-    unsafe {
-        teyolxan_read_loaded(
-            state,
-            message.as_ptr(),
-            message.len(),
-            values.as_mut_ptr(),
-            values.len(),
-            numbers,
-        )
-    };
+pub fn told([number, place, values, bits, octets, _]: Numbers) -> Answer {
+    if number == 0 {
+        Answer::Accepted {
+            values,
+            bits,
+            octets,
+        }
+    } else {
+        Answer::Refused {
+            number: number as u32,
+            place,
+        }
+    }
 }
 
 /// A list's octets, in place.
+#[cfg(tables)]
 #[inline]
 pub fn octets(values: &[i64]) -> &[u8] {
     // SAFETY: the same memory, lent for as long; octets need no alignment, and those of an i64 are
@@ -137,10 +60,158 @@ pub fn octets_mut(values: &mut [i64]) -> &mut [u8] {
     unsafe { slice::from_raw_parts_mut(values.as_mut_ptr().cast(), size_of_val(values)) }
 }
 
-/// The calls by name, and with values as numbers, from the library that is built for tests.
+/// The calls under tables, from libteyolxan.a.
+#[cfg(tables)]
+pub mod tables {
+    use super::Numbers;
+    use crate::codec::StateOctets;
+
+    extern "C" {
+        fn teyolxan_check(table: *const u8, table_length: usize, numbers: *mut Numbers);
+
+        fn teyolxan_read(
+            table: *const u8,
+            table_length: usize,
+            message: *const u8,
+            message_length: usize,
+            values: *mut u8,
+            values_length: usize,
+            numbers: *mut Numbers,
+        );
+
+        fn teyolxan_write(
+            table: *const u8,
+            table_length: usize,
+            values: *const u8,
+            values_length: usize,
+            output: *mut u8,
+            output_length: usize,
+            numbers: *mut Numbers,
+        );
+
+        fn teyolxan_load(
+            state: *mut StateOctets,
+            table: *const u8,
+            table_length: usize,
+            numbers: *mut Numbers,
+        );
+
+        fn teyolxan_read_loaded(
+            state: *const StateOctets,
+            message: *const u8,
+            message_length: usize,
+            values: *mut u8,
+            values_length: usize,
+            numbers: *mut Numbers,
+        );
+    }
+
+    #[inline]
+    pub fn check(table: &[u8], numbers: &mut Numbers) {
+        // SAFETY: pointer and length are those of a live slice, and the numbers are lent to us alone.
+        unsafe { teyolxan_check(table.as_ptr(), table.len(), numbers) };
+    }
+
+    #[inline]
+    pub fn read(table: &[u8], message: &[u8], values: &mut [u8], numbers: &mut Numbers) {
+        // SAFETY: pointers and lengths are those of live slices; only `values` and the numbers,
+        // which are lent to us alone, are written.
+        unsafe {
+            teyolxan_read(
+                table.as_ptr(),
+                table.len(),
+                message.as_ptr(),
+                message.len(),
+                values.as_mut_ptr(),
+                values.len(),
+                numbers,
+            )
+        };
+    }
+
+    #[inline]
+    pub fn write(table: &[u8], values: &[u8], output: &mut [u8], numbers: &mut Numbers) {
+        // SAFETY: pointers and lengths are those of live slices; only `output` and the numbers,
+        // which are lent to us alone, are written.
+        unsafe {
+            teyolxan_write(
+                table.as_ptr(),
+                table.len(),
+                values.as_ptr(),
+                values.len(),
+                output.as_mut_ptr(),
+                output.len(),
+                numbers,
+            )
+        };
+    }
+
+    #[inline]
+    pub fn load(state: &mut StateOctets, table: &[u8], numbers: &mut Numbers) {
+        // SAFETY: pointer and length are those of a live slice; only the state and the numbers, which are
+        // lent to us alone, are written.
+        unsafe { teyolxan_load(state, table.as_ptr(), table.len(), numbers) };
+    }
+
+    #[inline]
+    pub fn read_loaded(
+        state: &StateOctets,
+        message: &[u8],
+        values: &mut [u8],
+        numbers: &mut Numbers,
+    ) {
+        // SAFETY: the state has its size, pointers and lengths are those of live slices; only `values` and
+        // the numbers, which are lent to us alone, are written.
+        unsafe {
+            teyolxan_read_loaded(
+                state,
+                message.as_ptr(),
+                message.len(),
+                values.as_mut_ptr(),
+                values.len(),
+                numbers,
+            )
+        };
+    }
+}
+
+/// The LM reader without a table, from libteyolxan_lm.a.
+#[cfg(feature = "lm")]
+pub mod lm {
+    use super::Numbers;
+
+    extern "C" {
+        fn teyolxan_lm_read(
+            message: *const u8,
+            message_length: usize,
+            values: *mut u8,
+            values_length: usize,
+            numbers: *mut Numbers,
+        );
+    }
+
+    #[inline]
+    pub fn read(message: &[u8], values: &mut [u8], numbers: &mut Numbers) {
+        // SAFETY: pointers and lengths are those of live slices; only `values` and the numbers,
+        // which are lent to us alone, are written.
+        unsafe {
+            teyolxan_lm_read(
+                message.as_ptr(),
+                message.len(),
+                values.as_mut_ptr(),
+                values.len(),
+                numbers,
+            )
+        };
+    }
+}
+
+/// The calls by name, and with values as numbers, from libprobe.a and libprobe_lm.a, which are built for
+/// tests.
 #[cfg(feature = "probe")]
 pub mod probe {
-    use super::{Numbers, StateOctets};
+    use super::Numbers;
+    use crate::codec::StateOctets;
 
     extern "C" {
         fn probe_read_lm(
@@ -188,6 +259,14 @@ pub mod probe {
             values_count: usize,
             output: *mut u8,
             output_length: usize,
+            numbers: *mut Numbers,
+        );
+
+        fn probe_read_lm_plain(
+            message: *const u8,
+            message_length: usize,
+            values: *mut i64,
+            values_count: usize,
             numbers: *mut Numbers,
         );
 
@@ -258,6 +337,21 @@ pub mod probe {
                 values.len(),
                 output.as_mut_ptr(),
                 output.len(),
+                numbers,
+            )
+        };
+    }
+
+    /// Reads an LM without a table, with the values as numbers.
+    #[inline]
+    pub fn read_lm_plain(message: &[u8], values: &mut [i64], numbers: &mut Numbers) {
+        // SAFETY: as in `read`.
+        unsafe {
+            probe_read_lm_plain(
+                message.as_ptr(),
+                message.len(),
+                values.as_mut_ptr(),
+                values.len(),
                 numbers,
             )
         };

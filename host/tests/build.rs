@@ -27,6 +27,21 @@ fn a_missing_library_is_one_error_that_names_the_command() {
 }
 
 #[test]
+fn features_ask_for_their_libraries() {
+    let (tables, lm, probe, probe_lm) = ("teyolxan", "teyolxan_lm", "probe", "probe_lm");
+    for (features, names) in [
+        ([false, false, false], &[tables][..]),
+        ([true, false, false], &[tables]),
+        ([false, true, false], &[lm]),
+        ([true, true, false], &[tables, lm]),
+        ([true, true, true], &[tables, lm, probe, probe_lm]),
+    ] {
+        let [tables, lm, probe] = features;
+        assert_eq!(script::archives(tables, lm, probe), names, "{features:?}");
+    }
+}
+
+#[test]
 fn a_library_that_is_there_is_linked() {
     let folder = Path::new(env!("CARGO_TARGET_TMPDIR")).join("archives");
     fs::create_dir_all(&folder).expect("a folder");

@@ -12,6 +12,8 @@ use teyolxan_host::api::{Refusal, STATE_SIZE};
 const HOST: &str = include_str!("../../docs/HOST.md");
 const TABLES: &str = include_str!("../../docs/TABLES.md");
 const HEADER: &str = include_str!("../include/teyolxan.h");
+const LM_HEADER: &str = include_str!("../include/teyolxan_lm.h");
+const ANSWER_HEADER: &str = include_str!("../include/teyolxan_answer.h");
 
 /// The blocks of HOST.md that are marked with a language.
 fn blocks(language: &str) -> Vec<&'static str> {
@@ -22,24 +24,40 @@ fn blocks(language: &str) -> Vec<&'static str> {
         .collect()
 }
 
-/// The examples in the order in which they stand there; with each is said what it prints.
-const EXAMPLES: [&str; 2] = ["receiver", "host"];
+/// The examples in the order in which they stand there, with the library that each links; with each is
+/// said what it prints.
+const EXAMPLES: [(&str, &str); 3] = [
+    ("receiver", "teyolxan"),
+    ("smallest", "teyolxan_lm"),
+    ("host", "teyolxan"),
+];
+const SMALLEST: usize = 1;
 
-/// The blocks in a language that belong to the examples, with their last line ends: the last ones.
+/// Whether a block has declarations.
+fn declares(block: &str) -> bool {
+    ["void ", "api::"]
+        .iter()
+        .any(|start| block.starts_with(start))
+}
+
+/// The blocks in a language that belong to the examples, with their last line ends.
 fn example_blocks(language: &str) -> [String; EXAMPLES.len()] {
-    let blocks = blocks(language);
-    let last = blocks.last_chunk().expect("a block for each example");
-    last.map(|block| format!("{block}\n"))
+    let mut blocks = blocks(language);
+    blocks.retain(|block| !declares(block));
+    let blocks: [&str; EXAMPLES.len()] = blocks.try_into().expect("a block for each example");
+    blocks.map(|block| format!("{block}\n"))
 }
 
 #[test]
 fn the_examples_are_the_files() {
     let in_rust = [
         include_str!("../examples/receiver.rs"),
+        include_str!("../examples/smallest.rs"),
         include_str!("../examples/host.rs"),
     ];
     let in_c = [
         include_str!("../examples/receiver.c"),
+        include_str!("../examples/smallest.c"),
         include_str!("../examples/host.c"),
     ];
     assert_eq!(example_blocks("rust"), in_rust);
@@ -48,14 +66,18 @@ fn the_examples_are_the_files() {
 
 /// The declarations stand twice: for themselves, and in the header.
 #[test]
-fn the_declarations_are_those_of_the_header() {
-    let declarations = blocks("c")[0].split("\n\n");
-    let mut count = 0;
-    for declaration in declarations {
-        assert!(HEADER.contains(declaration), "{declaration}");
-        count += 1;
+fn the_declarations_are_those_of_the_headers() {
+    let mut blocks = blocks("c");
+    blocks.retain(|block| declares(block));
+    let headers = [(HEADER, 5), (LM_HEADER, 1)];
+    assert_eq!(blocks.len(), headers.len());
+    for (block, (header, count)) in blocks.into_iter().zip(headers) {
+        for declaration in block.split("\n\n") {
+            assert!(header.contains(declaration), "{declaration}");
+        }
+        let declared = [block, header].map(|text| text.matches("void teyolxan_").count());
+        assert_eq!(declared, [count; 2]);
     }
-    assert_eq!(count, 5);
 }
 
 /// What a program prints.
@@ -72,7 +94,7 @@ fn printed(program: &Path) -> String {
 fn the_rust_examples_print_what_is_said() {
     let test = env::current_exe().expect("this program has a path");
     let folder = test.ancestors().nth(2).expect("the folder of the profile");
-    for (name, said) in EXAMPLES.iter().zip(example_blocks("text")) {
+    for ((name, _), said) in EXAMPLES.iter().zip(example_blocks("text")) {
         let example = folder.join("examples").join(name);
         assert!(
             example.is_file(),
@@ -80,6 +102,37 @@ fn the_rust_examples_print_what_is_said() {
         );
         assert_eq!(printed(&example), said);
     }
+}
+
+fn archive(name: &str) -> PathBuf {
+    Path::new(env!("TEYOLXAN_ARCHIVES_FOLDER")).join(format!("lib{name}.a"))
+}
+
+/// The smallest unit is built where there is no other library.
+#[test]
+fn the_smallest_example_links_its_library_alone() {
+    let (name, library) = EXAMPLES[SMALLEST];
+    let folder = Path::new(env!("CARGO_TARGET_TMPDIR")).join("alone");
+    let archives = folder.join("archives");
+    fs::create_dir_all(&archives).expect("a folder for the library");
+    let library = archive(library);
+    let copied = archives.join(library.file_name().expect("a name"));
+    fs::copy(&library, &copied).expect("the library is copied");
+    let output = Command::new(env!("CARGO"))
+        .args(["build", "--quiet", "--offline", "--example", name])
+        .args(["--no-default-features", "--features", "lm"])
+        .arg("--manifest-path")
+        .arg(concat!(env!("CARGO_MANIFEST_DIR"), "/Cargo.toml"))
+        .arg("--target-dir")
+        .arg(&folder)
+        .env("TEYOLXAN_ARCHIVES", &archives)
+        .env("CARGO_PROFILE_DEV_OPT_LEVEL", "0") // built sooner
+        .output()
+        .expect("cargo runs");
+    let told = String::from_utf8_lossy(&output.stderr);
+    assert!(output.status.success(), "{told}");
+    let program = folder.join("debug/examples").join(name);
+    assert_eq!(printed(&program), example_blocks("text")[SMALLEST]);
 }
 
 /// Compiles a program without a warning, if the compiler is there.
@@ -108,9 +161,9 @@ fn compiled(compiler: &str, standard: &str, name: &str, sources: &[&Path]) -> Op
 #[test]
 fn the_c_examples_print_what_is_said() {
     let folder = Path::new(env!("CARGO_MANIFEST_DIR")).join("examples");
-    let library = Path::new(env!("TEYOLXAN_ARCHIVES_FOLDER")).join("libteyolxan.a");
-    for (name, said) in EXAMPLES.iter().zip(example_blocks("text")) {
+    for ((name, library), said) in EXAMPLES.iter().zip(example_blocks("text")) {
         let source = folder.join(name).with_extension("c");
+        let library = archive(library);
         let program = compiled(
             "cc",
             "-std=c99",
@@ -147,9 +200,12 @@ fn refusals_are_named_and_explained_alike() {
             format!("    TEYOLXAN_REFUSED_{name} = {number}"),
             format!("    case TEYOLXAN_REFUSED_{name}:\n        return \"{meaning}\";\n"),
         );
-        let ends = [",", "\n"].map(|end| HEADER.contains(&format!("{constant}{end}")));
+        let ends = [",", "\n"].map(|end| ANSWER_HEADER.contains(&format!("{constant}{end}")));
         assert!(ends.contains(&true), "the header lacks: {constant}");
-        assert!(HEADER.contains(&tested), "the header lacks: {tested}");
+        assert!(
+            ANSWER_HEADER.contains(&tested),
+            "the header lacks: {tested}"
+        );
         let row = format!("\n| {number} | `{name}` | {meaning} |");
         assert!(HOST.contains(&row), "docs/HOST.md lacks: {row}");
         let row = format!("\n| {number} | {meaning} |");
@@ -157,9 +213,12 @@ fn refusals_are_named_and_explained_alike() {
     }
     // No others: each is declared and tested, and has a sentence of its own.
     let count = Refusal::ALL.len();
-    let cases = HEADER.matches("    case TEYOLXAN_REFUSED_").count();
+    let cases = ANSWER_HEADER.matches("    case TEYOLXAN_REFUSED_").count();
     assert_eq!(
-        (cases, HEADER.matches("\n    TEYOLXAN_REFUSED_").count()),
+        (
+            cases,
+            ANSWER_HEADER.matches("\n    TEYOLXAN_REFUSED_").count()
+        ),
         (count, count)
     );
     let meanings: BTreeSet<_> = Refusal::ALL
@@ -222,18 +281,23 @@ int main(void)
     }
 }
 
-/// A program that takes the header and asks for no sentence has no warning either.
+/// A program that takes a header and asks for no sentence has no warning either; nor one that takes both.
 #[test]
-fn the_header_alone_has_no_warning() {
+fn the_headers_alone_have_no_warning() {
     let folder = PathBuf::from(env!("CARGO_TARGET_TMPDIR"));
     fs::create_dir_all(&folder).expect("a folder for the programs");
-    for (compiler, standard, file) in [
-        ("cc", "-std=c99", "header.c"),
-        ("c++", "-std=c++11", "header.cc"),
-    ] {
-        let source = folder.join(file);
-        let program = "#include \"teyolxan.h\"\nint main(void) { return 0; }\n";
-        fs::write(&source, program).expect("a program is written");
-        compiled(compiler, standard, &file.replace('.', "-in-"), &[&source]);
+    let (tables, lm) = ("teyolxan.h", "teyolxan_lm.h");
+    for (number, headers) in [vec![tables], vec![lm], vec![tables, lm], vec![lm, tables]]
+        .iter()
+        .enumerate()
+    {
+        let includes = headers.iter().map(|name| format!("#include \"{name}\"\n"));
+        let program = includes.collect::<String>() + "int main(void) { return 0; }\n";
+        for (compiler, standard, end) in [("cc", "-std=c99", "c"), ("c++", "-std=c++11", "cc")] {
+            let name = format!("headers-{number}-in-{end}");
+            let source = folder.join(format!("headers-{number}.{end}"));
+            fs::write(&source, &program).expect("a program is written");
+            compiled(compiler, standard, &name, &[&source]);
+        }
     }
 }

@@ -1,14 +1,17 @@
 //! The deepest and widest tables, lent and loaded, and states that are deeper than any table, in a
-//! thread with a small stack.
+//! thread with a small stack. And what the plain LM reader takes of a stack, counted.
 
 use std::thread;
 
 use teyolxan_host::api::{self, State};
 use teyolxan_host::archive::ARCHIVE;
 use teyolxan_host::assemble::{state_with, Assembler, Offset};
+use teyolxan_host::by_name;
 use teyolxan_host::codec::{value_octets, Answer, Codec, Refusal, StateOctets};
-use teyolxan_host::random::{forged_state, message_through, pack, Random};
-use teyolxan_host::reference::{self, index_width};
+use teyolxan_host::guarded::stack_of;
+use teyolxan_host::lm;
+use teyolxan_host::random::{forged_state, lm_list, lm_message, message_through, pack, Random};
+use teyolxan_host::reference::{self, index_width, LENGTH_MOST};
 
 /// The stack of the calling thread, in octets. It holds the thread's own data too.
 const STACK: usize = 64 * 1024;
@@ -322,4 +325,78 @@ fn any_states_need_little_stack() {
         (state, message, 200)
     });
     read_through(readings.collect());
+}
+
+/// The octets of stack that reading an LM without a table has to stay below.
+const PLAIN: usize = 1_024;
+
+/// An LM with all that there is in one: an N-Header that holds another, extensions in every header, and
+/// octets whose lengths have both forms. The T-Header has this selector.
+fn fullest_lm(selector: i64) -> Vec<i64> {
+    let octets = |length: i64| {
+        let mut values = vec![length];
+        values.extend((0..length).map(|at| at % 251));
+        values
+    };
+    let elements = || {
+        let mut values = vec![255];
+        for id in 0..255 {
+            values.push(id);
+            values.extend(octets(if id == 254 { 200 } else { 1 }));
+        }
+        values
+    };
+    let mut values = vec![1, 1, 3, 9, 40_000, 1, 2, 3, 4, 5, 6, 7, 8, 200];
+    values.extend(elements());
+    values.extend([2, 1, 3, 4_000_000, 2]);
+    values.extend(elements());
+    values.extend([selector, 1]);
+    values.extend(match selector {
+        0 => vec![3_000_000],
+        _ => vec![50_000, 60_000],
+    });
+    values.extend(elements());
+    values.extend(octets(i64::from(LENGTH_MOST)));
+    values
+}
+
+type Reading = fn(&[u8], &mut [i64]) -> Answer;
+
+/// The most stack that reading the message takes, with both forms of values. It is read as the reference
+/// does.
+fn plain_stack(message: &[u8], room: usize) -> usize {
+    let expected = reference::read_lm(message, room);
+    let taken = [lm::read as Reading, by_name::read_lm_plain].map(|read| {
+        let mut given = (Answer::PASSED, vec![-1; room]);
+        let taken = stack_of(|| given.0 = read(message, &mut given.1));
+        assert!(given == expected, "{:?}, not {:?}", given.0, expected.0);
+        taken
+    });
+    taken[0].max(taken[1])
+}
+
+#[test]
+fn reading_without_a_table_needs_under_a_kibibyte_of_stack() {
+    let mut most = 0;
+    for selector in [0, 1] {
+        let values = fullest_lm(selector);
+        let (written, mut message) = reference::write_lm(&values, 65_535);
+        let Answer::Accepted { octets, .. } = written else {
+            panic!("{written:?}");
+        };
+        message.truncate(octets as usize);
+        for room in [values.len() - 1, values.len(), values.len() + 1] {
+            most = most.max(plain_stack(&message, room));
+        }
+        let cut = message.len() - 1;
+        most = most.max(plain_stack(&message[..cut], values.len()));
+    }
+    for number in 0..1_000 {
+        let random = &mut Random::for_case(11, number);
+        let drawn = lm_list(random);
+        let message = lm_message(random, &drawn);
+        most = most.max(plain_stack(&message, drawn.items.len()));
+    }
+    println!("{most} octets");
+    assert!(most < PLAIN, "{most} octets");
 }

@@ -1,7 +1,7 @@
 //! What is drawn: each exported function, with octets and lengths of any kind, and its outcome
 //! against the reference.
 
-use teyolxan_host::archive::{Archive, CALLS};
+use teyolxan_host::archive::{Archive, Plain, Values, CALLS};
 use teyolxan_host::builtin;
 use teyolxan_host::by_name::Name;
 use teyolxan_host::case::{Case, Step, Table};
@@ -24,6 +24,8 @@ pub enum Fuzzed {
     Case(Case),
     /// A reading or writing under the table of a SAM or an SRM, which the library makes by name.
     ByName(Name, Case),
+    /// A reading of an LM, which the libraries make without a table, with both forms of values.
+    Plain(Case),
     /// Bits taken at any place.
     TakeAt {
         message: Vec<u8>,
@@ -59,6 +61,7 @@ impl Fuzzed {
                 (Name::Sam, _) => &["probe_write_sam"],
                 (Name::Srm, _) => &["probe_write_srm"],
             },
+            Fuzzed::Plain(_) => &["teyolxan_lm_read", "probe_read_lm_plain"],
             Fuzzed::TakeAt { .. } => &["probe_take"],
         }
     }
@@ -66,7 +69,7 @@ impl Fuzzed {
     /// The call in words, cut where it gets long.
     pub fn text(&self) -> String {
         let input = match self {
-            Fuzzed::Case(case) | Fuzzed::ByName(_, case) => case_text(case),
+            Fuzzed::Case(case) | Fuzzed::ByName(_, case) | Fuzzed::Plain(case) => case_text(case),
             Fuzzed::TakeAt { message, place, k } => {
                 format!("take {k} bits at {place} of {}", octets_cell(message))
             }
@@ -80,6 +83,10 @@ impl Fuzzed {
             Fuzzed::Case(case) => compare_one(&REFERENCE, archive, case, stats),
             Fuzzed::ByName(name, case) => {
                 compare_one(&REFERENCE, &ByName(*name, archive), case, stats)
+            }
+            Fuzzed::Plain(case) => {
+                compare_one(&REFERENCE, &Plain(Values::Octets, archive), case, stats)?;
+                compare_one(&REFERENCE, &Plain(Values::Numbers, archive), case, stats)
             }
             Fuzzed::TakeAt { message, place, k } => {
                 let (expected, given) = (
@@ -144,13 +151,20 @@ fn taken(message: &[u8], place: usize, k: u32) -> Result<Bits, Refusal> {
     })
 }
 
-/// A call: half of them as the comparison draws them, which are mostly short and nearly right.
+/// A call: half of them as the comparison draws them, which are mostly short and nearly right. Every other
+/// LM is read without a table.
 pub fn draw(random: &mut Random) -> Fuzzed {
-    match random.below(32) {
+    let drawn = match random.below(32) {
         0..=15 => Fuzzed::Case(compare::draw(random, &CALLS)),
         16 => draw_take(random),
         17..=20 => draw_state(random),
         _ => draw_any(random),
+    };
+    match drawn {
+        Fuzzed::Case(case) if case.call() == Call::ReadLm && random.one_in(2) => {
+            Fuzzed::Plain(case)
+        }
+        drawn => drawn,
     }
 }
 

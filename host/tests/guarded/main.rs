@@ -46,6 +46,7 @@ const PLANTED: u64 = 1_000;
 fn exported() -> Vec<&'static str> {
     let sources = [
         include_str!("../../../crates/teyolxan/src/lib.rt"),
+        include_str!("../../../crates/teyolxan_lm/src/lib.rt"),
         include_str!("../../../crates/probe/src/lib.rt"),
     ];
     let functions = sources

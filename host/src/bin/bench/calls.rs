@@ -6,6 +6,7 @@ use std::hint::black_box;
 use teyolxan_host::api::{self, State};
 use teyolxan_host::by_name::{self, Name};
 use teyolxan_host::codec::Answer;
+use teyolxan_host::lm;
 use teyolxan_host::reference::{self, straight, Opened, Passed};
 
 #[cfg(feature = "asn1c")]
@@ -13,10 +14,13 @@ use crate::asn1c;
 use crate::subjects::{Job, Kind, Message, Subject};
 
 /// Who makes the call. A lent table is checked in the call, a loaded one was before, any other is known
-/// to pass; straight Rust has none.
+/// to pass; ours plain and straight Rust have none.
 #[derive(Clone, Copy, Debug, PartialEq, Eq)]
 pub enum Way {
     Ours,
+    OursPlain,
+    /// The same with values as numbers. It has no column, and is told with its limits alone.
+    OursPlainNumbers,
     OursLoaded,
     OursLent,
     Rust,
@@ -26,11 +30,13 @@ pub enum Way {
 }
 
 impl Way {
-    /// The columns of a job's table.
+    /// Those that do a job, in the order of their columns.
     pub fn of(job: Job) -> Vec<Way> {
         let mut ways = match job {
             Job::Read => vec![
                 Way::Ours,
+                Way::OursPlain,
+                Way::OursPlainNumbers,
                 Way::OursLoaded,
                 Way::OursLent,
                 Way::Rust,
@@ -47,8 +53,9 @@ impl Way {
         ways
     }
 
-    pub fn title(self, job: Job) -> &'static str {
-        match (self, job) {
+    /// The title of its column, if it has one.
+    pub fn title(self, job: Job) -> Option<&'static str> {
+        Some(match (self, job) {
             (Way::Ours, Job::Read | Job::Write) => "ours by name",
             (Way::Rust, Job::Read | Job::Write) => "Rust by name",
             (Way::OursLoaded, Job::Check) => "ours loading",
@@ -57,9 +64,11 @@ impl Way {
             (Way::Rust, _) => "Rust",
             (Way::OursLent, _) => "ours lent",
             (Way::RustLent, _) => "Rust lent",
+            (Way::OursPlain, _) => "ours plain",
+            (Way::OursPlainNumbers, _) => return None,
             (Way::Straight, _) => "straight Rust",
             (Way::Asn1c, _) => "asn1c",
-        }
+        })
     }
 }
 
@@ -101,6 +110,7 @@ fn loaded(table: &[u8]) -> Box<State> {
 
 fn read(message: &Message, way: Way) -> Option<Work> {
     let table = message.table.clone();
+    let is_lm = message.kind == Kind::Lm;
     match way {
         Way::Ours => {
             let name = message.kind.name()?;
@@ -129,8 +139,10 @@ fn read(message: &Message, way: Way) -> Option<Work> {
         Way::RustLent => reading(message, move |octets, values| {
             reference::read_into(black_box(&table), octets, values)
         }),
-        Way::Straight if message.kind == Kind::Lm => reading(message, straight::read_lm_into),
-        Way::Straight => None,
+        Way::OursPlain if is_lm => reading(message, lm::read),
+        Way::OursPlainNumbers if is_lm => reading(message, by_name::read_lm_plain),
+        Way::Straight if is_lm => reading(message, straight::read_lm_into),
+        Way::OursPlain | Way::OursPlainNumbers | Way::Straight => None,
         Way::Asn1c => asn1c_reading(message),
     }
 }
@@ -178,7 +190,7 @@ fn write(message: &Message, way: Way) -> Option<Work> {
         Way::RustLent => writing(message, move |values, output| {
             reference::write_into(black_box(&table), values, output)
         }),
-        Way::Straight | Way::OursLoaded => None,
+        Way::OursPlain | Way::OursPlainNumbers | Way::OursLoaded | Way::Straight => None,
         Way::Asn1c => asn1c_writing(message),
     }
 }
@@ -255,7 +267,7 @@ fn take(width: u32, way: Way) -> Option<Work> {
             })
         }
         Way::Asn1c => asn1c_taking(width),
-        Way::OursLoaded | Way::OursLent | Way::RustLent | Way::Straight => None,
+        _ => None,
     }
 }
 

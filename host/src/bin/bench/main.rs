@@ -1,4 +1,4 @@
-//! What the calls cost, side by side: ours by name, with a loaded table and with a lent one, the
+//! What the calls cost, side by side: ours by name, plain, with a loaded table and with a lent one, the
 //! independent codec in Rust by name and lent, an LM reader in Rust without a table, and asn1c's code in
 //! C where it is linked. `host/bench` runs it.
 //!
@@ -19,7 +19,7 @@ mod tables;
 
 use calls::{prepare, Way};
 use subjects::Job;
-use tables::{limits, print_table, summary};
+use tables::{loaded_limits, plain_limits, print_table, summary};
 
 /// The tables of times, with those of instructions or without, and what they come to.
 fn print_tables(counts: bool) {
@@ -39,7 +39,8 @@ fn print_tables(counts: bool) {
     }
     println!("\n{}", summary(&times));
     if counts {
-        println!("\n{}", limits(&counted));
+        println!("\n{}", loaded_limits(&counted));
+        println!("\n{}", plain_limits(&counted));
     }
 }
 

@@ -6,8 +6,11 @@ use teyolxan_host::by_name::Name;
 use teyolxan_host::codec::Answer;
 use teyolxan_host::reference::{self, BENCH_ROOM, LENGTH_MOST, TABLE_MOST};
 
-/// The titles of messages that the summary names.
+/// The titles of messages that the limits name.
 pub const P1: &str = "P1";
+pub const P2: &str = "P2";
+pub const P3: &str = "P3";
+pub const TEN_ELEMENTS: &str = "LM, ten elements";
 pub const TEN_ROWS: &str = "ten rows";
 pub const TEN_ROWS_OF_MANY: &str = "ten rows of many";
 
@@ -229,9 +232,9 @@ fn messages() -> [Message; 13] {
     let p3 = vec![0, 1, 3, 1, 15, 1, 172, 0, 0, 0, 0];
     [
         (P1, Lm, p1),
-        ("P2", Lm, p2),
-        ("P3", Lm, p3),
-        ("LM, ten elements", Lm, lm_of_elements(10, 20)),
+        (P2, Lm, p2),
+        (P3, Lm, p3),
+        (TEN_ELEMENTS, Lm, lm_of_elements(10, 20)),
         ("LM, 200 octets", Lm, lm_of(200)),
         ("LM, 1,400 octets", Lm, lm_of(1_400)),
         ("LM, 16,383 octets", Lm, lm_of(16_383)),

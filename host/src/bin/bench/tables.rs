@@ -5,7 +5,7 @@ use teyolxan_host::api::STATE_SIZE;
 
 use crate::calls::Way;
 use crate::measure::Cost;
-use crate::subjects::{Job, Subject, P1, TEN_ROWS, TEN_ROWS_OF_MANY};
+use crate::subjects::{Job, Subject, P1, P2, P3, TEN_ELEMENTS, TEN_ROWS, TEN_ROWS_OF_MANY};
 
 /// A ratio up to this is close.
 const CLOSE: f64 = 1.1;
@@ -17,6 +17,12 @@ const LOADED_BY_LENT: f64 = 0.65;
 const LONG_BY_SHORT: f64 = 1.02;
 /// The most instructions that loading a table may cost beside checking it, for each octet of the state.
 const LOADING_OF_OCTET: f64 = 1.5;
+
+/// The LMs whose plain reading is held to limits: the most that it may cost, divided by straight Rust, and
+/// what it has to cost less than, divided by ours by name.
+const PLAIN: [&str; 4] = [P1, P2, P3, TEN_ELEMENTS];
+const PLAIN_BY_STRAIGHT: f64 = 1.5;
+const PLAIN_BY_NAME: f64 = 0.6;
 
 /// What a table tells beside what it prints.
 pub struct Measured {
@@ -44,6 +50,7 @@ impl Ratio {
     /// How our call was given its table.
     fn form(&self) -> &'static str {
         match self.ours {
+            Way::OursPlain => "plain",
             Way::OursLoaded => "loaded",
             Way::OursLent => "lent",
             _ => "by name",
@@ -58,6 +65,8 @@ fn ratios(job: Job) -> Vec<(&'static str, Way, Way)> {
             ("by name / asn1c", Way::Ours, Way::Asn1c),
             ("by name / Rust", Way::Ours, Way::Rust),
             ("by name / straight", Way::Ours, Way::Straight),
+            ("plain / straight", Way::OursPlain, Way::Straight),
+            ("plain / by name", Way::OursPlain, Way::Ours),
             ("loaded / asn1c", Way::OursLoaded, Way::Asn1c),
             ("loaded / lent", Way::OursLoaded, Way::OursLent),
             ("lent / asn1c", Way::OursLent, Way::Asn1c),
@@ -149,7 +158,7 @@ pub fn print_table(
 
     let mut titles = vec![""];
     titles.extend(sizes(job));
-    titles.extend(ways.iter().map(|way| way.title(job)));
+    titles.extend(ways.iter().filter_map(|way| way.title(job)));
     titles.extend(columns.iter().map(|&(title, _, _)| title));
     print_heading(job, unit, &titles);
     let (mut all, mut lines) = (Vec::new(), Vec::new());
@@ -158,13 +167,15 @@ pub fn print_table(
         let mut cells = vec![subject.title()];
         cells.extend(sizes_of(subject).into_iter().map(grouped));
         let numbers = costs.iter().map(|cost| cost.as_ref().map(Cost::number));
-        cells.extend(numbers.clone().map(|number| cell(number, shown)));
-        let costs_of_ways = ways.iter().zip(numbers);
+        let of_ways: Vec<_> = ways.iter().copied().zip(numbers).collect();
+        let in_columns = of_ways.iter().filter(|(way, _)| way.title(job).is_some());
+        cells.extend(in_columns.map(|&(_, number)| cell(number, shown)));
+        let costs_of_ways = of_ways.into_iter();
         lines.push(Line {
             job,
             subject: subject.title(),
             costs: costs_of_ways
-                .filter_map(|(&way, number)| Some((way, number?)))
+                .filter_map(|(way, number)| Some((way, number?)))
                 .collect(),
         });
         for &(_, ours, other) in &columns {
@@ -182,16 +193,28 @@ pub fn print_table(
     Measured { ratios: all, lines }
 }
 
+/// What the call of a line costs.
+fn cost(counts: &[Line], job: Job, subject: &str, way: Way) -> f64 {
+    let line = counts
+        .iter()
+        .find(|line| line.job == job && line.subject == subject);
+    let costs = &line.expect("the line is counted").costs;
+    let found = costs.iter().find(|(other, _)| *other == way);
+    found.expect("the way is counted").1
+}
+
+/// The verdict on limits.
+fn kept(all: bool) -> &'static str {
+    if all {
+        "All are kept."
+    } else {
+        "**Not all are kept.**"
+    }
+}
+
 /// Whether the instructions of loaded tables stay below their limits.
-pub fn limits(counts: &[Line]) -> String {
-    let cost = |job: Job, subject: &str, way: Way| {
-        let line = counts
-            .iter()
-            .find(|line| line.job == job && line.subject == subject);
-        let costs = &line.expect("the line is counted").costs;
-        let found = costs.iter().find(|(other, _)| *other == way);
-        found.expect("the way is counted").1
-    };
+pub fn loaded_limits(counts: &[Line]) -> String {
+    let cost = |job: Job, subject: &str, way: Way| cost(counts, job, subject, way);
     let read = |subject: &str, way: Way| cost(Job::Read, subject, way);
     let by_lent = read(P1, Way::OursLoaded) / read(P1, Way::OursLent);
     let by_short = read(TEN_ROWS_OF_MANY, Way::OursLoaded) / read(TEN_ROWS, Way::OursLoaded);
@@ -209,7 +232,7 @@ pub fn limits(counts: &[Line]) -> String {
         .iter()
         .map(|(table, more)| format!("{} ({table})", shown(*more)))
         .collect();
-    let kept = by_lent <= LOADED_BY_LENT
+    let all = by_lent <= LOADED_BY_LENT
         && by_short <= LONG_BY_SHORT
         && loading.iter().all(|&(_, more)| more <= most);
     format!(
@@ -218,30 +241,61 @@ pub fn limits(counts: &[Line]) -> String {
          of {}. {}",
         listed.join(", "),
         shown(most),
-        if kept {
-            "All are kept."
-        } else {
-            "**Not all are kept.**"
-        },
+        kept(all),
+    )
+}
+
+/// Whether the instructions of plain reading stay below their limits, with both forms of values.
+pub fn plain_limits(counts: &[Line]) -> String {
+    let forms = [Way::OursPlain, Way::OursPlainNumbers];
+    let ratios = |other: Way| {
+        PLAIN.map(|subject| {
+            let cost = |way: Way| cost(counts, Job::Read, subject, way);
+            forms.map(|way| cost(way) / cost(other))
+        })
+    };
+    let (by_straight, by_name) = (ratios(Way::Straight), ratios(Way::Ours));
+    let listed = |ratios: [[f64; 2]; 4]| {
+        let lines = PLAIN.iter().zip(ratios);
+        let lines = lines.map(|(subject, [octets, numbers])| {
+            format!("{octets:.2} and {numbers:.2} ({subject})")
+        });
+        lines.collect::<Vec<String>>().join(", ")
+    };
+    let all = by_straight
+        .as_flattened()
+        .iter()
+        .all(|&ratio| ratio <= PLAIN_BY_STRAIGHT)
+        && by_name
+            .as_flattened()
+            .iter()
+            .all(|&ratio| ratio < PLAIN_BY_NAME);
+    format!(
+        "Limits in instructions, reading plain with values as octets and as numbers: plain / straight, {} of \
+         {PLAIN_BY_STRAIGHT}; plain / by name, {} below {PLAIN_BY_NAME}. {}",
+        listed(by_straight),
+        listed(by_name),
+        kept(all),
     )
 }
 
 /// What the times of reading and writing come to.
 pub fn summary(times: &[Ratio]) -> String {
     format!(
-        "{} {}{}",
-        beside(times, Way::Rust, "By name / Rust"),
-        beside(times, Way::Straight, "By name / straight"),
+        "{} {} {}{}",
+        beside(times, Way::Ours, Way::Rust, "By name / Rust"),
+        beside(times, Way::Ours, Way::Straight, "By name / straight"),
+        beside(times, Way::OursPlain, Way::Straight, "Plain / straight"),
         behind_asn1c(times)
     )
 }
 
-fn beside(times: &[Ratio], other: Way, title: &str) -> String {
-    let by_name = |ratio: &&Ratio| (ratio.ours, ratio.other) == (Way::Ours, other);
-    let mut ratios: Vec<&Ratio> = times.iter().filter(by_name).collect();
+fn beside(times: &[Ratio], ours: Way, other: Way, title: &str) -> String {
+    let mut ratios: Vec<&Ratio> = times.iter().collect();
+    ratios.retain(|ratio| (ratio.ours, ratio.other) == (ours, other));
     ratios.sort_by(|left, right| left.value.total_cmp(&right.value));
     let close = ratios.partition_point(|ratio| ratio.value <= CLOSE);
-    let largest = ratios.last().expect("calls by name are timed");
+    let largest = ratios.last().expect("both are timed");
     format!(
         "{title} in time: {} lines, {close} of them at most {CLOSE}, the largest {:.2} ({}).",
         ratios.len(),
@@ -284,15 +338,18 @@ mod tests {
         }
     }
 
-    #[test]
-    fn limits_are_told_with_what_they_are_held_to() {
-        let line = |job: Job, subject: &str, costs: &[(Way, f64)]| Line {
+    fn line(job: Job, subject: &str, costs: &[(Way, f64)]) -> Line {
+        Line {
             job,
             subject: subject.to_string(),
             costs: costs.to_vec(),
-        };
+        }
+    }
+
+    #[test]
+    fn limits_of_loaded_tables_are_told_with_what_they_are_held_to() {
         let counts = |loaded: f64, long: f64, loading: f64| {
-            limits(&[
+            loaded_limits(&[
                 line(
                     Job::Read,
                     P1,
@@ -322,6 +379,39 @@ mod tests {
     }
 
     #[test]
+    fn limits_of_plain_reading_are_told_with_what_they_are_held_to() {
+        let counts = |octets: f64, numbers: f64, by_name: f64| {
+            let costs = [
+                (Way::Straight, 100.0),
+                (Way::OursPlain, octets),
+                (Way::OursPlainNumbers, numbers),
+                (Way::Ours, by_name),
+            ];
+            let right = [100.0, 120.0, 110.0, 300.0];
+            let others = [0, 1, 2, 3].map(|at| (costs[at].0, right[at]));
+            plain_limits(&PLAIN.map(|subject| {
+                let costs = if subject == P3 { costs } else { others };
+                line(Job::Read, subject, &costs)
+            }))
+        };
+        assert_eq!(
+            counts(150.0, 140.0, 251.0),
+            "Limits in instructions, reading plain with values as octets and as numbers: plain / straight, \
+             1.20 and 1.10 (P1), 1.20 and 1.10 (P2), 1.50 and 1.40 (P3), 1.20 and 1.10 (LM, ten elements) of \
+             1.5; plain / by name, 0.40 and 0.37 (P1), 0.40 and 0.37 (P2), 0.60 and 0.56 (P3), 0.40 and 0.37 \
+             (LM, ten elements) below 0.6. All are kept."
+        );
+        for counts in [
+            counts(151.0, 140.0, 300.0),
+            counts(140.0, 151.0, 300.0),
+            counts(150.0, 140.0, 250.0),
+            counts(140.0, 150.0, 250.0),
+        ] {
+            assert!(counts.ends_with("**Not all are kept.**"), "{counts}");
+        }
+    }
+
+    #[test]
     fn the_summary_counts_lines_and_names_those_behind() {
         let mut times = vec![
             ratio("reading P1", Way::Ours, Way::Rust, 1.1),
@@ -329,10 +419,13 @@ mod tests {
             ratio("writing P1", Way::Ours, Way::Rust, 1.5),
             ratio("writing P2", Way::Ours, Way::Rust, 0.5),
             ratio("reading P1", Way::Ours, Way::Straight, 2.0),
+            ratio("reading P1", Way::OursPlain, Way::Straight, 1.0),
+            ratio("reading P1", Way::OursPlain, Way::Ours, 0.5),
         ];
         let beside = "By name / Rust in time: 3 lines, 2 of them at most 1.1, the largest 1.50 \
                       (writing P1). By name / straight in time: 1 lines, 0 of them at most 1.1, \
-                      the largest 2.00 (reading P1).";
+                      the largest 2.00 (reading P1). Plain / straight in time: 1 lines, 1 of them at \
+                      most 1.1, the largest 1.00 (reading P1).";
         assert_eq!(summary(&times), beside);
 
         times.push(ratio("reading P1", Way::Ours, Way::Asn1c, 1.0));
