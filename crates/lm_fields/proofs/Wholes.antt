@@ -1,10 +1,11 @@
 -- The fields of every kind are whole octets.
 -- Assumes nothing.
 use mathlib.Core.Path.{refl}
+use native.Mathlib.Omega.{arith}
 use lib.IntN.{pos}
 use Rattle.bits.specs.Bits.{width}
-use Rattle.item.specs.Code.{number, variable}
-use Rattle.whole.proofs.Aligned.{Whole, whole-stop, whole-then, whole-times, whole-one, whole-octet, whole-pair, number-octets, variable-octets}
+use Rattle.item.specs.Code.{variable}
+use Rattle.whole.proofs.Aligned.{Whole, whole-stop, whole-then, whole-times, whole-one, whole-octet, whole-number, whole-pair, variable-octets}
 use Rattle.lm_items.specs.Asked.{octet, twoOctets, fieldItems}
 use Rattle.lm_items.specs.declared.Kind.{Kind}
 use Rattle.lm_items.specs.declared.Kind.the-variants.{NullNetworking, InternalForwarding, NHopForwarding, Dissemination, Session, UserData}
@@ -14,8 +15,8 @@ unfolding octet
 whole-one-octet = whole-octet
 
 pub whole-two-octets : Whole twoOctets
-unfolding twoOctets width
-whole-two-octets = whole-one (number (pos 0) 65535) (number-octets (pos 0) 65535 refl)
+unfolding twoOctets
+whole-two-octets = whole-number 2 (omega arith) (omega arith)
 
 pub whole-fields : (kind : Kind) → Whole (fieldItems kind)
 unfolding fieldItems width

@@ -11,19 +11,28 @@ ghost use lib.ListN.{length};
 ghost use Rattle.bits.specs.Access.{mostOctets};
 ghost use Rattle.items.specs.Items.{_then_, times};
 ghost use Rattle.read_steps.specs.Reads.{Reads, stateAt};
-ghost use Rattle.lm_items.specs.Asked.{octet, twoOctets, fieldItems};
-ghost use Rattle.lm_items.specs.declared.Kind.the-variants.{InternalForwarding, NHopForwarding, Dissemination, Session};
+ghost use Rattle.whole.specs.Sized.{numberSized};
+ghost use Rattle.lm_items.specs.Asked.{octet, fieldItems};
+ghost use Rattle.lm_items.specs.declared.Kind.the-variants.{InternalForwarding, NHopForwarding, Dissemination};
 
-// Direction and ITS-SCU-ID.
-fn unit(message: &[u8], values: &mut [i64], packed: &mut [u8], room: usize, cursor: Cursor) -> Step
-    requires { ⌜ (length (now message) ≤ mostOctets) × (cursor .place .0 % 8 ≡ 0) ⌝ }
-    ensures { λ r. ⌜ Reads (now (message .entry)) room (octet then twoOctets) (stateAt cursor (now (values .entry)) (now (packed .entry))) (now (values .exit)) (now (packed .exit)) r ⌝ }
+// Two numbers, of one octet or two each.
+fn pair(
+    early: usize,
+    late: usize,
+    message: &[u8],
+    values: &mut [i64],
+    packed: &mut [u8],
+    room: usize,
+    cursor: Cursor,
+) -> Step
+    requires { ⌜ (length (now message) ≤ mostOctets) × (cursor .place .0 % 8 ≡ 0) × (1 ≤ early) × (early ≤ 2) × (1 ≤ late) × (late ≤ 2) ⌝ }
+    ensures { λ r. ⌜ Reads (now (message .entry)) room (numberSized early then numberSized late) (stateAt cursor (now (values .entry)) (now (packed .entry))) (now (values .exit)) (now (packed .exit)) r ⌝ }
 {
-    let direction = whole::number(1, &*message, values, packed, room, cursor);
-    let Step::Past(next) = direction else {
-        return direction;
+    let first = whole::number(early, &*message, values, packed, room, cursor);
+    let Step::Past(next) = first else {
+        return first;
     };
-    whole::number(2, &*message, values, packed, room, next)
+    whole::number(late, &*message, values, packed, room, next)
 }
 
 // The eight octets of the Link-ID, and the counter.
@@ -38,7 +47,7 @@ fn link(message: &[u8], values: &mut [i64], packed: &mut [u8], room: usize, curs
     whole::number(1, &*message, values, packed, room, next)
 }
 
-// Internal forwarding.
+// Internal forwarding: direction and ITS-SCU-ID; then the Link-ID and the counter.
 fn forwarding(
     message: &[u8],
     values: &mut [i64],
@@ -49,7 +58,7 @@ fn forwarding(
     requires { ⌜ (length (now message) ≤ mostOctets) × (cursor .place .0 % 8 ≡ 0) ⌝ }
     ensures { λ r. ⌜ Reads (now (message .entry)) room (fieldItems InternalForwarding) (stateAt cursor (now (values .entry)) (now (packed .entry))) (now (values .exit)) (now (packed .exit)) r ⌝ }
 {
-    let sent = unit(&*message, values, packed, room, cursor);
+    let sent = pair(1, 2, &*message, values, packed, room, cursor);
     let Step::Past(next) = sent else {
         return sent;
     };
@@ -95,18 +104,6 @@ fn address(
     read_steps::kept(item, values, packed, room, cursor)
 }
 
-// A session: the source address and the destination address.
-fn ports(message: &[u8], values: &mut [i64], packed: &mut [u8], room: usize, cursor: Cursor) -> Step
-    requires { ⌜ (length (now message) ≤ mostOctets) × (cursor .place .0 % 8 ≡ 0) ⌝ }
-    ensures { λ r. ⌜ Reads (now (message .entry)) room (fieldItems Session) (stateAt cursor (now (values .entry)) (now (packed .entry))) (now (values .exit)) (now (packed .exit)) r ⌝ }
-{
-    let source = whole::number(2, &*message, values, packed, room, cursor);
-    let Step::Past(next) = source else {
-        return source;
-    };
-    whole::number(2, &*message, values, packed, room, next)
-}
-
 // The fields of a kind.
 pub fn fields(
     kind: Kind,
@@ -124,7 +121,8 @@ pub fn fields(
         Kind::InternalForwarding => forwarding(&*message, values, packed, room, cursor),
         Kind::NHopForwarding => hops(&*message, values, packed, room, cursor),
         Kind::Dissemination => address(&*message, values, packed, room, cursor),
-        Kind::Session => ports(&*message, values, packed, room, cursor),
+        // source address, destination address
+        Kind::Session => pair(2, 2, &*message, values, packed, room, cursor),
         Kind::UserData => Step::Past(cursor),
     }
 }

@@ -1,6 +1,6 @@
 -- Items whose bits are whole octets, read from an octet's first bit on, leave a reader at another's.
 -- Assumes nothing.
-use Prim.Native.Nat.{ℕ, zero, suc, _+_, _-_, _*_, _%_}
+use Prim.Native.Nat.{ℕ, zero, suc, _+_, _-_, _*_, _%_, _^_, _≤_}
 use mathlib.Core.Bool.{Bool, true}
 use mathlib.Core.Path.{_≡_, refl, sym, ap, _∙_}
 use mathlib.Core.List.{List, [], _∷_}
@@ -16,6 +16,8 @@ use Rattle.items.specs.Items.{Items, stop, ask, _then_, one, times, Allows, enc
 use Rattle.items.specs.Reading.{Reading, done, stuck, readItems}
 use Rattle.items.specs.Walk.{walk, forget}
 use Rattle.items.proofs.ReadItems.{read-sound}
+use Rattle.whole.specs.Sized.{numberSized}
+use Rattle.whole.proofs.Cut.{width-octets}
 use Rattle.read_steps.specs.Reads.{State, stateAt, cursorAt, stepOf, Reads}
 use Rattle.read_steps.specs.declared.Cursor.{Cursor}
 use Rattle.read_steps.specs.declared.Step.{Step}
@@ -86,6 +88,10 @@ length-octets least most v = let n = natural (v -ℤ pos 0) in spelling-octets (
 pub whole-octet : Whole (one (number (pos 0) 255))
 unfolding width
 whole-octet = whole-one (number (pos 0) 255) (number-octets (pos 0) 255 refl)
+
+-- a number that is so many octets
+pub whole-number : (n : ℕ) → 1 ≤ n → n ≤ 2 → Whole (numberSized n)
+whole-number n l h = whole-one (number (pos 0) (2 ^ (8 * n) - 1)) (number-octets (pos 0) (2 ^ (8 * n) - 1) (rw (width-octets n l h) (omega arith)))
 
 -- ── a reader ──
 

@@ -6,15 +6,14 @@ use item::Item;
 use read_steps::Cursor;
 use read_steps::Step;
 ghost use mathlib.Core.Path.{_≡_};
-ghost use Prim.Native.Nat.{_+_, _-_, _*_, _%_, _<_, _≤_, _^_};
+ghost use Prim.Native.Nat.{_+_, _*_, _%_, _<_, _≤_, _^_};
 ghost use lib.IntN.{pos};
 ghost use lib.ListN.{length, take, drop, set};
 ghost use Rattle.bits.specs.Access.{mostOctets, fetched};
 ghost use Rattle.bits.specs.Bits.{numberOf, unpack};
-ghost use Rattle.item.specs.Code.{Code};
 ghost use Rattle.values.specs.Values.{setValue};
-ghost use Rattle.items.specs.Items.{one};
 ghost use Rattle.item.specs.declared.Item.the-variants.{Value};
+ghost use Rattle.whole.specs.Sized.{numberSized};
 ghost use Rattle.read_steps.specs.Reads.{Reads, stateAt, keptStep, keptIn};
 
 // The number that one octet, two or three spell, all of them there.
@@ -73,7 +72,7 @@ pub fn number(
     cursor: Cursor,
 ) -> Step
     requires { ⌜ (length (now message) ≤ mostOctets) × (cursor .place .0 % 8 ≡ 0) × (1 ≤ octets) × (octets ≤ 2) ⌝ }
-    ensures { λ r. ⌜ Reads (now (message .entry)) room (one (Code.number (pos 0) (2 ^ (8 * octets) - 1))) (stateAt cursor (now (values .entry)) (now (packed .entry))) (now (values .exit)) (now (packed .exit)) r ⌝ }
+    ensures { λ r. ⌜ Reads (now (message .entry)) room (numberSized octets) (stateAt cursor (now (values .entry)) (now (packed .entry))) (now (values .exit)) (now (packed .exit)) r ⌝ }
 {
     let f = fetch(&*message, cursor.place, octets);
     let Fetched::Bits(number, next) = f else {

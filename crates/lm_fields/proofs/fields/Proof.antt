@@ -2,7 +2,7 @@
 -- Assumes nothing.
 use borrow.Author.Needs.{needs}
 use Rattle.read_steps.proofs.Flow.{reads-nothing}
-use Rattle.lm_items.specs.Asked.{fieldItems}
+use Rattle.lm_items.specs.Asked.{twoOctets, fieldItems}
 use Rattle.lm_fields.proofs.fields.Statement.{statement}
 use Rattle.lm_fields.proofs.fields.Tie as tie
 
@@ -23,8 +23,8 @@ unfolding fieldItems
 returns-4 c = rw (c .before .before .before .before .before .before .enum-told4 .given .1) (c .before .before .before .address .ensures)
 
 returns-5 : tie.Need-returns-5
-unfolding fieldItems
-returns-5 c = rw (c .before .before .before .before .before .before .enum-told5 .given .1) (c .before .before .before .ports .ensures)
+unfolding fieldItems twoOctets
+returns-5 c = rw (c .before .before .before .before .before .before .enum-told5 .given .1) (c .before .before .before .pair .ensures)
 
 returns-6 : tie.Need-returns-6
 unfolding fieldItems
