@@ -2,14 +2,14 @@
 -- Assumes nothing.
 use Prim.Native.Nat.{ℕ, _+_, _/_, _%_, _^_, _≤_, _<_}
 use mathlib.Core.Bool.{Bool, true, false, cond}
-use mathlib.Core.Path.{_≡_, sym, ap, _∙_}
+use mathlib.Core.Path.{_≡_, sym}
 use mathlib.Core.List.{List}
 use native.Mathlib.Omega.{arith}
 use native.Mathlib.Nat.{add-zero}
 use lib.IntN.{pos}
-use lib.ListN.{getD, drop}
+use lib.ListN.{getD}
 use Rattle.answer.specs.Numbers.{refusalAt, messageEnds, noBranch}
-use Rattle.bits.specs.Bits.{width, unpack}
+use Rattle.bits.specs.Bits.{width}
 use Rattle.bits.specs.Access.{placeAt, fetched}
 use Rattle.bits.specs.declared.BitPlace.{BitPlace}
 use Rattle.bits.specs.declared.Fetched.the-variants.{Bits, Short}

@@ -1,20 +1,13 @@
 // The strings of octets in an LM: its extension elements, each an ID and contents, and its user data (ISO 16460, clause 5).
 use answer::Refusal;
-use bits::BitPlace;
-use bits::Fetched;
-use item::Item;
 use lm_items::Kind;
 use read_steps::Cursor;
 use read_steps::Step;
 ghost use mathlib.Core.Path.{_≡_};
-ghost use Prim.Native.Nat.{_+_, _*_, _%_, _<_, _≤_};
+ghost use Prim.Native.Nat.{_%_, _≤_};
 ghost use lib.ListN.{length};
 ghost use Rattle.bits.specs.Access.{mostOctets};
-ghost use lib.IntN.{pos};
-ghost use Rattle.item.specs.Code.{Code};
-ghost use Rattle.item.specs.Answers.{itemAt};
-ghost use Rattle.items.specs.Items.{one, times};
-ghost use Rattle.encoding.specs.Rows.{octetsWithin};
+ghost use Rattle.items.specs.Items.{times};
 ghost use Rattle.read_steps.specs.Reads.{Reads, stateAt};
 ghost use Rattle.lm_items.specs.Asked.{idItems, stringItems, stringsItems};
 ghost use Rattle.lm_strings.specs.Counts.{Counts};

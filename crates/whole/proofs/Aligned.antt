@@ -1,7 +1,7 @@
 -- Items whose bits are whole octets, read from an octet's first bit on, leave a reader at another's.
 -- Assumes nothing.
 use Prim.Native.Nat.{ℕ, zero, suc, _+_, _-_, _*_, _%_, _^_, _≤_}
-use mathlib.Core.Bool.{Bool, true}
+use mathlib.Core.Bool.{true}
 use mathlib.Core.Path.{_≡_, refl, sym, ap, _∙_}
 use mathlib.Core.List.{List, [], _∷_}
 use native.Mathlib.Omega.{arith}
@@ -18,7 +18,7 @@ use Rattle.items.specs.Walk.{walk, forget}
 use Rattle.items.proofs.ReadItems.{read-sound}
 use Rattle.whole.specs.Sized.{numberSized}
 use Rattle.whole.proofs.Cut.{width-octets}
-use Rattle.read_steps.specs.Reads.{State, stateAt, cursorAt, stepOf, Reads}
+use Rattle.read_steps.specs.Reads.{State, cursorAt, stepOf, Reads}
 use Rattle.read_steps.specs.declared.Cursor.{Cursor}
 use Rattle.read_steps.specs.declared.Step.{Step}
 use Rattle.read_steps.specs.declared.Step.the-variants.{Past}

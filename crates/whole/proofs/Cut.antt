@@ -3,10 +3,9 @@
 use Prim.Native.Nat.{ℕ, zero, suc, _+_, _-_, _*_, _/_, _%_, _^_, _≤_, _<_}
 use mathlib.Core.Bool.{Bool, true, false, cond}
 use mathlib.Core.Path.{_≡_, refl, sym, ap, _∙_, subst}
-use mathlib.Core.List.{List, _++_}
+use mathlib.Core.List.{List}
 use native.Mathlib.Omega.{arith}
-use native.Mathlib.Nat.{zero-add, mod-lt}
-use lib.Pow.{pow-pos}
+use native.Mathlib.Nat.{zero-add}
 use lib.Dec.{leb}
 use lib.IntN.{ℤ, pos}
 use lib.ListN.{length, getD, take, drop, length-drop, take-append-drop}
@@ -22,14 +21,12 @@ use Rattle.bits.proofs.Splice.{part-append}
 use Rattle.window.proofs.Parts.{numberOf-middle}
 use Rattle.item.specs.Code.{Code, number, index, indexWidth}
 use Rattle.item.specs.Answers.{itemAt}
-use Rattle.item.specs.declared.Item.{Item}
 use Rattle.item.specs.declared.Item.the-variants.{Value, Bad}
 use Rattle.read_steps.specs.Reads.{State, refusedAt}
 use Rattle.read_steps.specs.declared.Cursor.{Cursor}
 use Rattle.read_steps.specs.declared.Step.{Step}
 use Rattle.read_steps.specs.declared.Step.the-variants.{Past}
 use Rattle.read_steps.proofs.Keeping.{Keeping}
-use Rattle.read_item.specs.Steps.{frontOf}
 use Rattle.read_item.proofs.Outcomes.{fetched-front, number-short, number-is, index-short, index-is}
 
 -- k bits behind s others, with t behind them, in n that spell x

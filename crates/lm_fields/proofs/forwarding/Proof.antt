@@ -1,7 +1,5 @@
 -- `lm_fields::forwarding` meets its contract. One part after the other.
 -- Assumes nothing.
-use mathlib.Core.Path.{refl}
-use native.Mathlib.Omega.{arith}
 use borrow.Author.Needs.{needs}
 use Rattle.items.specs.Items.{_then_, one, times}
 use Rattle.read_steps.proofs.Flow.{refused-part, continues-part}

@@ -1,6 +1,6 @@
 -- `lm_fields::hops` meets its contract. Message ID and hop count are cut out of the number that three octets spell.
 -- Assumes nothing.
-use Prim.Native.Nat.{ℕ, _+_, _*_, _/_, _%_, _^_, _<_}
+use Prim.Native.Nat.{_+_, _/_, _%_}
 use mathlib.Core.Path.{_≡_, refl, sym, _∙_}
 use native.Mathlib.Omega.{arith}
 use native.Mathlib.Nat.{add-zero}

@@ -1,12 +1,11 @@
 -- `lm_fields::link` meets its contract. Eight octets, and a number of one.
 -- Assumes nothing.
-use mathlib.Core.Path.{refl}
 use native.Mathlib.Omega.{arith}
 use borrow.Author.Needs.{needs}
 use Rattle.items.specs.Items.{times}
 use Rattle.read_steps.proofs.Flow.{refused-part, continues-part}
 use Rattle.whole.proofs.Aligned.{aligned-after, whole-times}
-use Rattle.lm_items.specs.Asked.{octet, twoOctets, fieldItems}
+use Rattle.lm_items.specs.Asked.{octet}
 use Rattle.lm_fields.proofs.Wholes.{whole-one-octet}
 use Rattle.lm_fields.proofs.link.Statement.{statement}
 use Rattle.lm_fields.proofs.link.Tie as tie

@@ -1,7 +1,5 @@
 -- `lm_fields::pair` meets its contract. One number after the other.
 -- Assumes nothing.
-use mathlib.Core.Path.{refl}
-use native.Mathlib.Omega.{arith}
 use borrow.Author.Needs.{needs}
 use Rattle.read_steps.proofs.Flow.{refused-part, continues-part}
 use Rattle.whole.proofs.Aligned.{aligned-after, whole-number}

@@ -1,7 +1,7 @@
 -- `lm_sections::read_sections` meets its contract. Invariant: reading an LM comes to reading it from the section that follows on.
 -- Assumes nothing.
-use Prim.Native.Nat.{_%_, _<_, _≤_}
-use mathlib.Core.Path.{_≡_, refl, sym, ap, _∙_}
+use Prim.Native.Nat.{_%_}
+use mathlib.Core.Path.{_≡_, refl, ap}
 use native.Mathlib.Omega.{arith}
 use borrow.Author.Needs.{needs}
 use denote.Ref.{now}

@@ -1,7 +1,5 @@
 -- `lm_strings::id` meets its contract. User data has none; an element's is one octet.
 -- Assumes nothing.
-use mathlib.Core.Path.{sym, _∙_}
-use mathlib.Core.Bool.{cond}
 use borrow.Author.Needs.{needs}
 use Rattle.read_steps.proofs.Flow.{reads-nothing}
 use Rattle.lm_items.specs.Asked.{octet}

@@ -1,9 +1,7 @@
 -- `same_lm::same_refusal` meets its contract. Refusals are the same where number and place are.
 -- Assumes nothing.
 use mathlib.Core.Bool.{true, false, false≢true}
-use mathlib.Core.Path.{_≡_, refl, sym, ap, _∙_}
-use native.Mathlib.Omega.{arith}
-use borrow.Author.Needs.{needs}
+use mathlib.Core.Path.{ap, _∙_}
 use borrow.Author.Tests.{eq-eqb, eqb-true}
 use Rattle.answer.specs.Numbers.{refusalAt}
 use Rattle.answer.specs.declared.Refusal.{Refusal}

@@ -1,12 +1,11 @@
 -- `whole::number` meets its contract. The octets of a number, fetched and kept.
 -- Assumes nothing.
-use Prim.Native.Nat.{ℕ, _-_, _*_, _^_, _≤_, _<_}
-use mathlib.Core.Path.{_≡_, refl, sym, ap, _∙_}
+use Prim.Native.Nat.{_-_, _*_, _^_, _<_}
+use mathlib.Core.Path.{refl, sym, _∙_}
 use native.Mathlib.Omega.{arith}
 use borrow.Author.Needs.{needs}
 use denote.Ref.{now}
 use lib.IntN.{pos}
-use Rattle.bits.specs.Access.{placeAt}
 use Rattle.bits.proofs.Access.{fetched-Bits}
 use Rattle.bits.proofs.Bits.{numberOf-take-lt}
 use Rattle.item.specs.Code.{number}
