@@ -1,4 +1,4 @@
--- Items and nothing more; a run of the same items: none left, and one more.
+-- Items and nothing more; items in three parts; a run of the same items: none left, and one more.
 -- Assumes nothing.
 use Prim.Native.Nat.{ℕ, suc}
 use mathlib.Core.Path.{_≡_, refl, ap, fun-ext}
@@ -8,6 +8,10 @@ use Rattle.items.specs.Items.{Items, stop, ask, _then_, one, times}
 pub then-stop : (p : Items) → p then stop ≡ p
 then-stop stop = refl
 then-stop (ask c k) = ap (ask c) (fun-ext (λ v. then-stop (k v)))
+
+pub then-assoc : (p q r : Items) → (p then q) then r ≡ p then (q then r)
+then-assoc stop q r = refl
+then-assoc (ask c k) q r = ap (ask c) (fun-ext (λ v. then-assoc (k v) q r))
 
 pub times-none : (n : ℕ) (p : Items) → n ≡ 0 → times n p ≡ stop
 unfolding times

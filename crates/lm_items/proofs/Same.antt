@@ -13,7 +13,7 @@ use Rattle.item.specs.Code.{number, variable, lengthWithin, index, natural}
 use Rattle.row.specs.Offsets.{earlier}
 use Rattle.row.specs.Rows.{Row, Number, Variable, FixedRun, CountedRun, Record, Choice, Octets, rowOf, rowAt}
 use Rattle.items.specs.Items.{Items, stop, ask, _then_, one, times}
-use Rattle.items.proofs.Runs.{then-stop}
+use Rattle.items.proofs.Runs.{then-stop, then-assoc}
 use Rattle.encoding.specs.Rows.{presence, fields, octetsWithin, rowItems, items, asks}
 use Rattle.encoding.proofs.RowItems.{items-row}
 use Rattle.builtin.specs.Tables.{lm}
@@ -25,15 +25,11 @@ use Rattle.lm_items.specs.Same.{SameItems}
 
 -- ── items one after the other, and the fields of a record ──
 
-then-then : (p q r : Items) → (p then q) then r ≡ p then (q then r)
-then-then stop q r = refl
-then-then (ask c k) q r = ap (ask c) (fun-ext (λ v. then-then (k v) q r))
-
 -- a field that is there, by what its row asks for; extension elements, there or not; and then the rest
 module _ (g : ℕ → Items) (q : Items) where
   field-then : {p rest : Items} (r : ℕ) (rs : List ℕ) (ps : List Bool) → g r ≡ p → fields g rs ps then q ≡ rest → fields g (r ∷ rs) (true ∷ ps) then q ≡ p then rest
   unfolding fields
-  field-then r rs ps e h = then-then (g r) (fields g rs ps) q ∙ ap₂ _then_ e h
+  field-then r rs ps e h = then-assoc (g r) (fields g rs ps) q ∙ ap₂ _then_ e h
 
   elements-then : {rest : Items} (kind : Kind) (r : ℕ) (rs : List ℕ) (ps : List Bool) (e : Bool) → g r ≡ elementsIf true kind → fields g rs ps then q ≡ rest
       → fields g (r ∷ rs) (e ∷ ps) then q ≡ elementsIf e kind then rest

@@ -2,7 +2,7 @@
 -- Assumes nothing.
 use Prim.Native.Nat.{ℕ, suc, _+_, _-_, _*_, _≤_}
 use mathlib.Core.Bool.{Bool, true, false, cond, _&&_}
-use mathlib.Core.Path.{_≡_, refl, sym, ap, ap₂, _∙_, fun-ext}
+use mathlib.Core.Path.{_≡_, refl, sym, ap, ap₂, _∙_}
 use mathlib.Core.List.{List, [], _∷_, _++_, map, append-assoc}
 use native.Mathlib.Omega.{arith}
 use lib.Dec.{leb, eqb}
@@ -25,6 +25,7 @@ use Rattle.items.specs.Encoding.{size}
 use Rattle.items.specs.Reading.{Reading, done, stuck, prepend, readItems, accept, refuse, allZero, closeRead, decode}
 use Rattle.items.specs.Walk.{forget, walk}
 use Rattle.items.proofs.ReadItems.{bind, read-then, read-sound}
+use Rattle.items.proofs.Runs.{then-assoc}
 use Rattle.encoding.proofs.RowItems.{items-record}
 use Rattle.builtin.specs.Tables.{lm}
 use Rattle.builtin.proofs.Tables.{lm-obeys, lm-root}
@@ -51,10 +52,6 @@ network-starts = (root-refers .0 .0, omega arith)
 pub transport-starts : Starts lm 278
 unfolding lm
 transport-starts = (root-refers .1 .0 .0, omega arith)
-
-then-assoc : (p q r : Items) → (p then q) then r ≡ p then (q then r)
-then-assoc stop q r = refl
-then-assoc (ask c k) q r = ap (ask c) (fun-ext (λ v. then-assoc (k v) q r))
 
 -- an LM is the headers and then the user data
 asks-headers : asks lm ≡ headers then (items lm 540 then stop)
