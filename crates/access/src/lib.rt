@@ -11,22 +11,18 @@ ghost use lib.ListN.{length, getD, take, drop};
 ghost use Rattle.bits.specs.Bits.{numberOf, bitsOf, unpack};
 ghost use Rattle.bits.specs.Access.{mostOctets, fetched, stored, overwritten};
 
-// Whether the k bits from a place on lie within so many octets. They do where four octets follow the place's.
+// Whether the k bits from a place on lie within so many octets. They do where four octets follow the place's; else the octets
+// that hold them are counted.
 fn inside(octets: usize, place: BitPlace, k: u32) -> bool
     requires { ⌜ (octets ≤ mostOctets) × (k ≤ 32) ⌝ }
     ensures { λ r. ⌜ r ≡ leb (place .0 + k) (8 * octets) ⌝ }
 {
-    let from = place.0;
     let first = BitPlace::octets_before(place);
     if first.0 + 4 < octets {
         return true;
     }
-    let end = BitPlace::after(OctetSize(octets));
-    let all = end.0;
-    if all < from {
-        return false;
-    }
-    k as usize <= all - from
+    let end = BitPlace::bits_into_octet(place) + k;
+    first.0 + ((end + 7) / 8) as usize <= octets
 }
 
 // How many bits follow the k from a place on in the five octets that begin with the place's.
@@ -45,11 +41,11 @@ pub fn fetch(message: &[u8], place: BitPlace, k: u32) -> Fetched
     if !inside(message.len(), place, k) {
         return Fetched::Short;
     }
-    let from = place.0;
     let first = BitPlace::octets_before(place);
     let window = window::window(message, first.0);
-    let cut = (window >> bits_behind(place, k)) % window::power(k);
-    Fetched::Bits(cut as u32, BitPlace(from + k as usize))
+    let into = BitPlace::bits_into_octet(place);
+    let next = place.0 + k as usize;
+    Fetched::Bits(window::cut(window, into, k), BitPlace(next))
 }
 
 // The eight bits that begin so many bits into an octet, all of them there. Without a test for each octet, so that a loop over

@@ -8,7 +8,7 @@ use native.Mathlib.Nat.{mod-lt}
 use lib.Arith.{digits-lt}
 use lib.Bits.{bitAnd, and-high}
 use lib.ListN.{take, drop}
-use lib.Pow.{pow-add, pow-pos, shr-lt, split, high-ones}
+use lib.Pow.{pow-add, pow-pos, shr-lt, shl-shr, shr-shr, split, field, high-ones}
 use lib.Seq.{take-at, drop-at}
 use Rattle.bits.specs.Bits.{numberOf, bitsOf}
 use Rattle.window.specs.Window.{placed}
@@ -85,3 +85,15 @@ placed-masked w t k v =
     let upper = ap (λ (y : ℕ). y * 2 ^ t) (split (w / 2 ^ t) k) in
     let whole = split w t in
     rw (← high-ones k t, and-high w k t) (omega arith)
+
+-- the k bits of 40 that follow the first i: shifted up, they lose the bits before them, and down those behind
+pub cut-shifted : (w i k : ℕ) → i < 8 → k ≤ 32 → (w * 2 ^ (24 + i)) % 2 ^ 64 / 2 ^ (64 - k) ≡ w / 2 ^ (40 - i - k) % 2 ^ k
+cut-shifted w i k hi hk =
+    let n = w * 2 ^ (24 + i) in
+    let b = 40 - i - k in
+    let whole : 64 ≡ k + (64 - k) = omega arith in
+    let down : 64 - k ≡ (24 + i) + b = omega arith in
+    ap (λ x. n % 2 ^ x / 2 ^ (64 - k)) whole
+    ∙ field n k (64 - k)
+    ∙ ap (λ x. n / 2 ^ x % 2 ^ k) down
+    ∙ ap (λ x. x % 2 ^ k) (sym (shr-shr n (24 + i) b) ∙ ap (λ x. x / 2 ^ b) (shl-shr w (24 + i)))

@@ -1,7 +1,7 @@
 // Five octets of a slice as one number of 40 bits, the first octet on top. Octets past the end read as 0, and nothing is
 // stored there.
 ghost use mathlib.Core.Path.{_≡_};
-ghost use Prim.Native.Nat.{_+_, _*_, _<_, _≤_, _^_};
+ghost use Prim.Native.Nat.{_+_, _-_, _*_, _/_, _%_, _<_, _≤_, _^_};
 ghost use lib.ListN.{length, getD, set};
 ghost use Rattle.bits.specs.Access.{mostOctets};
 ghost use Rattle.window.specs.Window.{fourAt, windowAt, withWindow, placed};
@@ -112,6 +112,18 @@ pub fn power(k: u32) -> u64
     ensures { λ r. ⌜ (r ≡ 2 ^ k) × (0 < r) ⌝ }
 {
     1u64 << k
+}
+
+// The k bits of a number of 40 bits that follow its first few. Two shifts, whatever the width: the first drops the bits before
+// them, the second those behind.
+pub fn cut(window: u64, into: u32, k: u32) -> u32
+    requires { ⌜ (into < 8) × (k ≤ 32) ⌝ }
+    ensures { λ r. ⌜ r ≡ window / 2 ^ (40 - into - k) % 2 ^ k ⌝ }
+{
+    if k == 0 {
+        return 0;
+    }
+    ((window << (24 + into)) >> (64 - k)) as u32
 }
 
 // A number below 2 ^ k with so many bits below it.

@@ -2,11 +2,9 @@
 use borrow.Author.Needs.{needs}
 use borrow.Author.Tests.{leb-true, not-true, not-false}
 use native.Mathlib.Omega.{arith}
-use native.Mathlib.Nat.{mod-lt, lt-of-lt-of-le}
 use mathlib.Core.Path.{sym, _∙_}
 use Prim.Native.Nat.{ℕ, _+_, _*_, _≤_, _<_}
 use lib.ListN.{length, getD}
-use lib.Pow.{pow-pos, pow-mono}
 use denote.Ref.{now}
 use Rattle.bits.proofs.Access.{fetched-inside}
 use Rattle.window.proofs.InWindow.{number-in-window}
@@ -14,11 +12,11 @@ use Rattle.access.proofs.fetch.Statement.{statement}
 use Rattle.access.proofs.fetch.Tie as tie
 use Rattle.access.proofs.fetch.Reads as reads
 use Rattle.access.proofs.fetch.Lts as lts
-use Rattle.bits.proofs.BitPlace.octets_before.Reads as octets-before-reads
-use Rattle.access.proofs.bits_behind.Reads as bits-behind-reads
 use Rattle.access.proofs.inside.Reads as inside-reads
+use Rattle.bits.proofs.BitPlace.bits_into_octet.Reads as bits-into-octet-reads
+use Rattle.bits.proofs.BitPlace.octets_before.Reads as octets-before-reads
+use Rattle.window.proofs.cut.Reads as cut-reads
 use Rattle.window.proofs.window.Reads as window-reads
-use Rattle.window.proofs.power.Reads as power-reads
 
 abbrev callees : lts.Claims
 callees = (
@@ -28,10 +26,10 @@ callees = (
   octets-before-reads.Learnt,
   window-reads.Asked,
   window-reads.Learnt,
-  bits-behind-reads.Asked,
-  bits-behind-reads.Learnt,
-  power-reads.Asked,
-  power-reads.Learnt,
+  bits-into-octet-reads.Asked,
+  bits-into-octet-reads.Learnt,
+  cut-reads.Asked,
+  cut-reads.Learnt,
 )
 
 -- the bits are there
@@ -45,18 +43,12 @@ returns c = simp (sym (c .before .inside .ensures) ∙ not-true _ (c .if1 .taken
 window-requires : tie.Need-window-requires
 window-requires c κs = omega (arith, fits (c .before))
 
-cast-t11 : tie.Need-cast-t11
-cast-t11 c =
-    let k = c .before .before .before .before .before .before .before .args .k in
-    let h : k ≤ 32 = omega arith in
-    rw (c .power .ensures .0) (record { fits = lt-of-lt-of-le (mod-lt _ (pow-pos k)) (pow-mono h) })
-
-add-t15 : tie.Need-add-t15
-add-t15 c = omega (arith, fits (c .before .before .before .before))
+add-next : tie.Need-add-next
+add-next c = omega (arith, fits (c .before .before .before .before))
 
 returns-2 : tie.Need-returns-2
 returns-2 c =
-    let tested = c .before .before .before .before in
+    let tested = c .before .before .before .before .before in
     let known = tested .before .before in
     let a = known .before .args in
     let m = now (a .message) in
@@ -64,10 +56,10 @@ returns-2 c =
     rw (
       fetched-inside m (a .place .0) (a .k) (fits tested),
       number-in-window m octets (a .place .0) (a .k) (omega arith) (fits tested),
-      c .power .ensures .0,
-      c .before .bits-behind .ensures,
-      c .before .before .window .ensures .0,
-      c .before .before .before .octets-before .ensures,
+      c .cut .ensures,
+      c .before .before .bits-into-octet .ensures,
+      c .before .before .before .window .ensures .0,
+      c .before .before .before .before .octets-before .ensures,
     )
 
 pub fetch-spec : {M : Type 1} → statement M
@@ -79,10 +71,6 @@ fetch-spec =
     (λ c κs. search needs)
     window-requires
     (λ c κs. search needs)
-    (λ c. search needs)
-    (λ c. search needs)
+    add-next
     (λ c κs. search needs)
-    (λ c. search needs)
-    cast-t11
-    add-t15
     returns-2)
