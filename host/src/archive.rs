@@ -113,8 +113,25 @@ impl<M: Memory> Archive<M> {
 
     /// Takes bits at a place of an opened message.
     pub fn take_at(&self, message: &[u8], place: usize, k: u32) -> Result<Bits, Refusal> {
+        self.bits(message, |message, numbers| {
+            probe::take(message, place, k, numbers)
+        })
+    }
+
+    /// The same, with the bits fetched one at a time.
+    pub fn take_bitwise_at(&self, message: &[u8], place: usize, k: u32) -> Result<Bits, Refusal> {
+        self.bits(message, |message, numbers| {
+            probe::take_bitwise(message, place, k, numbers)
+        })
+    }
+
+    fn bits(
+        &self,
+        message: &[u8],
+        take: impl Fn(&[u8], &mut linked::Numbers),
+    ) -> Result<Bits, Refusal> {
         let [number, place, bits, rest @ ..] = self.0.show(message, |message| {
-            self.numbers(|numbers| probe::take(message, place, k, numbers))
+            self.numbers(|numbers| take(message, numbers))
         });
         assert_eq!(rest, [0; 3], "the numbers are no bits");
         refusal(number, place).map(|()| Bits {

@@ -5,6 +5,7 @@ use crate::codec::{Answer, Bits, Element, Refusal};
 use crate::linked::{answer, probe, BEFORE};
 
 pub use crate::linked::probe::Name;
+pub use crate::linked::Numbers;
 
 /// Reads the message into the value slice.
 #[inline]
@@ -28,8 +29,36 @@ pub fn read_lm_plain(message: &[u8], values: &mut [i64]) -> Answer {
 #[inline]
 pub fn take(message: &[u8], place: usize, k: u32) -> Result<Bits, Refusal> {
     let mut numbers = BEFORE;
-    probe::take(message, place, k, &mut numbers);
-    match numbers {
+    take_told(message, place, k, &mut numbers)
+}
+
+/// The same, told in six numbers that the caller lends, whatever they hold before.
+#[inline]
+pub fn take_told(
+    message: &[u8],
+    place: usize,
+    k: u32,
+    numbers: &mut Numbers,
+) -> Result<Bits, Refusal> {
+    probe::take(message, place, k, numbers);
+    bits_told(numbers)
+}
+
+/// The same, with the bits fetched one at a time.
+#[inline]
+pub fn take_bitwise_told(
+    message: &[u8],
+    place: usize,
+    k: u32,
+    numbers: &mut Numbers,
+) -> Result<Bits, Refusal> {
+    probe::take_bitwise(message, place, k, numbers);
+    bits_told(numbers)
+}
+
+#[inline]
+fn bits_told(numbers: &Numbers) -> Result<Bits, Refusal> {
+    match *numbers {
         [0, place, number, ..] => Ok(Bits { number, place }),
         [number, place, ..] => Err(Refusal {
             number: number as u32,

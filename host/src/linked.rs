@@ -292,6 +292,14 @@ pub mod probe {
             k: u32,
             numbers: *mut Numbers,
         );
+
+        fn probe_take_bitwise(
+            message: *const u8,
+            message_length: usize,
+            place: usize,
+            k: u32,
+            numbers: *mut Numbers,
+        );
     }
 
     /// The messages that have a name.
@@ -398,5 +406,11 @@ pub mod probe {
     pub fn take(message: &[u8], place: usize, k: u32, numbers: &mut Numbers) {
         // SAFETY: as in `user_data`; any place and any k may be asked.
         unsafe { probe_take(message.as_ptr(), message.len(), place, k, numbers) };
+    }
+
+    #[inline]
+    pub fn take_bitwise(message: &[u8], place: usize, k: u32, numbers: &mut Numbers) {
+        // SAFETY: as in `take`.
+        unsafe { probe_take_bitwise(message.as_ptr(), message.len(), place, k, numbers) };
     }
 }

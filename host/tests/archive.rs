@@ -196,6 +196,31 @@ fn lists_are_lent_in_place() {
     assert_eq!(values, [0; 3]);
 }
 
+/// Every width at every place, to the end of the message and past it: by whole octets, bit by bit, and
+/// as the bits are defined.
+#[test]
+fn bits_by_octets_are_the_bits_one_by_one() {
+    let octets: Vec<u8> = (0..11).map(|at| at * 167 + 91).collect();
+    for size in 0..=octets.len() {
+        let message = &octets[..size];
+        for (place, k) in (0..=8 * size + 9).flat_map(|place| (1..=32).map(move |k| (place, k))) {
+            let bits = place..place + k as usize;
+            let expected = if bits.end <= 8 * size {
+                let bit = |at: usize| u64::from(message[at / 8] >> (7 - at % 8) & 1);
+                Ok(Bits {
+                    number: bits.clone().fold(0, |number, at| 2 * number + bit(at)),
+                    place: bits.end as u64,
+                })
+            } else {
+                Err(Refusal::new(Refusal::MESSAGE_ENDS, place))
+            };
+            let given = ARCHIVE.take_at(message, place, k);
+            assert_eq!(given, expected, "{k} bits at {place} of {message:02X?}");
+            assert_eq!(ARCHIVE.take_bitwise_at(message, place, k), expected);
+        }
+    }
+}
+
 /// Of no bits none is missing, wherever the place is; of one, one is.
 #[test]
 fn bits_are_taken_beyond_the_end_where_there_are_none() {

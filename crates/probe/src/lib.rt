@@ -1,6 +1,8 @@
 // For the tests in host/ alone and no part of the product, so that nothing here has a contract: the calls by name and
 // those with values as numbers, which the host's calls do not reach.
 use bits::BitPlace;
+use bits::Fetched;
+use bits::OctetSize;
 use elements::Home;
 use loading::STATE;
 use opened::Taken;
@@ -89,4 +91,26 @@ pub extern "C" fn probe_take(message: &[u8], place: usize, k: u32, numbers: &mut
         Taken::Number(number, next) => [0, next.0 as u64, number as u64, 0, 0, 0],
         Taken::Refused(refusal) => [refusal.number as u64, refusal.place as u64, 0, 0, 0, 0],
     };
+}
+
+// The same with the bits fetched one at a time, for the benchmark.
+#[no_mangle]
+pub extern "C" fn probe_take_bitwise(message: &[u8], place: usize, k: u32, numbers: &mut [u64; 6]) {
+    *numbers = [2, place as u64, 0, 0, 0, 0];
+    if 32 < k {
+        numbers[0] = 6;
+        return;
+    }
+    if k == 0 {
+        numbers[0] = 0;
+        return;
+    }
+    if OctetSize::MOST < message.len() {
+        return;
+    }
+    let fetched = bitwise::fetch(message, BitPlace(place), k);
+    let Fetched::Bits(number, next) = fetched else {
+        return;
+    };
+    *numbers = [0, next.0 as u64, number as u64, 0, 0, 0];
 }

@@ -62,7 +62,7 @@ impl Fuzzed {
                 (Name::Srm, _) => &["probe_write_srm"],
             },
             Fuzzed::Plain(_) => &["teyolxan_lm_read", "probe_read_lm_plain"],
-            Fuzzed::TakeAt { .. } => &["probe_take"],
+            Fuzzed::TakeAt { .. } => &["probe_take", "probe_take_bitwise"],
         }
     }
 
@@ -89,13 +89,14 @@ impl Fuzzed {
                 compare_one(&REFERENCE, &Plain(Values::Numbers, archive), case, stats)
             }
             Fuzzed::TakeAt { message, place, k } => {
-                let (expected, given) = (
-                    taken(message, *place, *k),
+                let expected = taken(message, *place, *k);
+                let given = [
                     archive.take_at(message, *place, *k),
-                );
+                    archive.take_bitwise_at(message, *place, *k),
+                ];
                 stats.cases += 1;
                 stats.calls[Call::Take as usize] += 1;
-                if expected == given {
+                if given.iter().all(|given| *given == expected) {
                     return Ok(());
                 }
                 Err(format!("{}\n  {expected:?}, not {given:?}", self.text()))

@@ -4,8 +4,8 @@
 use std::hint::black_box;
 
 use teyolxan_host::api::{self, State};
-use teyolxan_host::by_name::{self, Name};
-use teyolxan_host::codec::Answer;
+use teyolxan_host::by_name::{self, Name, Numbers};
+use teyolxan_host::codec::{Answer, Bits, Refusal};
 use teyolxan_host::lm;
 use teyolxan_host::reference::{self, straight, Opened, Passed};
 
@@ -26,6 +26,9 @@ pub enum Way {
     Rust,
     RustLent,
     Straight,
+    /// Bits that are fetched one by one, by a function of ours with the fetch's contract, and in Rust.
+    OursBitwise,
+    RustBitwise,
     Asn1c,
 }
 
@@ -44,7 +47,7 @@ impl Way {
                 Way::Straight,
             ],
             Job::Write => vec![Way::Ours, Way::OursLent, Way::Rust, Way::RustLent],
-            Job::Take => vec![Way::Ours, Way::Rust],
+            Job::Take => vec![Way::Ours, Way::OursBitwise, Way::Rust, Way::RustBitwise],
             Job::Check => vec![Way::Ours, Way::OursLoaded, Way::Rust],
         };
         if cfg!(feature = "asn1c") && job != Job::Check {
@@ -67,6 +70,8 @@ impl Way {
             (Way::OursPlain, _) => "ours plain",
             (Way::OursPlainNumbers, _) => return None,
             (Way::Straight, _) => "straight Rust",
+            (Way::OursBitwise, _) => "ours bit by bit",
+            (Way::RustBitwise, _) => "Rust bit by bit",
             (Way::Asn1c, _) => "asn1c",
         })
     }
@@ -143,6 +148,7 @@ fn read(message: &Message, way: Way) -> Option<Work> {
         Way::OursPlainNumbers if is_lm => reading(message, by_name::read_lm_plain),
         Way::Straight if is_lm => reading(message, straight::read_lm_into),
         Way::OursPlain | Way::OursPlainNumbers | Way::Straight => None,
+        Way::OursBitwise | Way::RustBitwise => None,
         Way::Asn1c => asn1c_reading(message),
     }
 }
@@ -190,7 +196,8 @@ fn write(message: &Message, way: Way) -> Option<Work> {
         Way::RustLent => writing(message, move |values, output| {
             reference::write_into(black_box(&table), values, output)
         }),
-        Way::OursPlain | Way::OursPlainNumbers | Way::OursLoaded | Way::Straight => None,
+        Way::OursPlain | Way::OursPlainNumbers | Way::OursLoaded => None,
+        Way::Straight | Way::OursBitwise | Way::RustBitwise => None,
         Way::Asn1c => asn1c_writing(message),
     }
 }
@@ -232,24 +239,29 @@ const fn pattern() -> [u8; 1_024] {
     octets
 }
 
-/// The number in the bits, bit by bit.
-fn bits_at(place: usize, width: u32) -> u64 {
+/// The number in the bits of these octets, bit by bit.
+#[inline]
+fn bits_at(octets: &[u8], place: usize, width: u32) -> u64 {
     (place..place + width as usize).fold(0, |number, at| {
-        number << 1 | u64::from(BITS[at / 8] >> (7 - at % 8) & 1)
+        number << 1 | u64::from(octets[at / 8] >> (7 - at % 8) & 1)
     })
 }
 
 fn take(width: u32, way: Way) -> Option<Work> {
     match way {
-        Way::Ours => {
+        Way::Ours => taking_told(width, by_name::take_told),
+        Way::OursBitwise => taking_told(width, by_name::take_bitwise_told),
+        Way::RustBitwise => {
             let mut place = START;
             taking(width, move || {
                 if place > LAST {
                     place = START;
                 }
-                let bits = by_name::take(black_box(&BITS), place, width).expect("bits");
-                place = bits.place as usize;
-                bits.number
+                let octets: &[u8] = black_box(&BITS);
+                assert!(width <= 32 && width as usize <= 8 * octets.len() - place);
+                let number = bits_at(octets, place, width);
+                place += width as usize;
+                number
             })
         }
         Way::Rust => {
@@ -271,10 +283,31 @@ fn take(width: u32, way: Way) -> Option<Work> {
     }
 }
 
+/// One of ours, which is lent the same six numbers each time.
+fn taking_told(
+    width: u32,
+    call: impl Fn(&[u8], usize, u32, &mut Numbers) -> Result<Bits, Refusal> + 'static,
+) -> Option<Work> {
+    let mut place = START;
+    let mut numbers = [0; 6];
+    taking(width, move || {
+        if place > LAST {
+            place = START;
+        }
+        let bits = call(black_box(&BITS), place, width, &mut numbers).expect("bits");
+        place = bits.place as usize;
+        bits.number
+    })
+}
+
 fn taking(width: u32, mut call: impl FnMut() -> u64 + 'static) -> Option<Work> {
     for turn in 0..TRIED {
         let place = START + turn * width as usize;
-        assert_eq!(call(), bits_at(place, width), "{width} bits at {place}");
+        assert_eq!(
+            call(),
+            bits_at(&BITS, place, width),
+            "{width} bits at {place}"
+        );
     }
     Some(repeated(call))
 }

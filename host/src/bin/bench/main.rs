@@ -19,7 +19,7 @@ mod tables;
 
 use calls::{prepare, Way};
 use subjects::Job;
-use tables::{loaded_limits, plain_limits, print_table, summary};
+use tables::{fetch_limits, loaded_limits, plain_limits, print_table, summary};
 
 /// The tables of times, with those of instructions or without, and what they come to.
 fn print_tables(counts: bool) {
@@ -41,6 +41,7 @@ fn print_tables(counts: bool) {
     if counts {
         println!("\n{}", loaded_limits(&counted));
         println!("\n{}", plain_limits(&counted));
+        println!("\n{}", fetch_limits(&counted));
     }
 }
 

@@ -24,6 +24,9 @@ const PLAIN: [&str; 4] = [P1, P2, P3, TEN_ELEMENTS];
 const PLAIN_BY_STRAIGHT: f64 = 1.5;
 const PLAIN_BY_NAME: f64 = 0.6;
 
+/// The instructions that fetching bits has to stay below, the loop around it and the call included.
+const FETCH_BELOW: f64 = 59.0;
+
 /// What a table tells beside what it prints.
 pub struct Measured {
     pub ratios: Vec<Ratio>,
@@ -75,6 +78,7 @@ fn ratios(job: Job) -> Vec<(&'static str, Way, Way)> {
         Job::Take | Job::Check => vec![
             ("ours / asn1c", Way::Ours, Way::Asn1c),
             ("ours / Rust", Way::Ours, Way::Rust),
+            ("ours / bit by bit", Way::Ours, Way::OursBitwise),
         ],
     }
 }
@@ -279,6 +283,30 @@ pub fn plain_limits(counts: &[Line]) -> String {
     )
 }
 
+/// Whether the instructions of fetching bits stay below their limits: a number, and the Rust codec's.
+pub fn fetch_limits(counts: &[Line]) -> String {
+    let fetches: Vec<(&str, f64, f64)> = counts
+        .iter()
+        .filter(|line| line.job == Job::Take)
+        .map(|line| {
+            let cost = |way: Way| cost(counts, Job::Take, &line.subject, way);
+            (line.subject.as_str(), cost(Way::Ours), cost(Way::Rust))
+        })
+        .collect();
+    let listed: Vec<String> = fetches
+        .iter()
+        .map(|(width, ours, rust)| format!("{} of {} ({width})", shown(*ours), shown(*rust)))
+        .collect();
+    let all = fetches
+        .iter()
+        .all(|(_, ours, rust)| ours < &FETCH_BELOW && ours <= rust);
+    format!(
+        "Limits in instructions, fetching bits: below {FETCH_BELOW}, and at most the Rust codec's, {}. {}",
+        listed.join(", "),
+        kept(all),
+    )
+}
+
 /// What the times of reading and writing come to.
 pub fn summary(times: &[Ratio]) -> String {
     format!(
@@ -407,6 +435,25 @@ mod tests {
             counts(150.0, 140.0, 250.0),
             counts(140.0, 150.0, 250.0),
         ] {
+            assert!(counts.ends_with("**Not all are kept.**"), "{counts}");
+        }
+    }
+
+    #[test]
+    fn limits_of_fetching_are_told_with_what_they_are_held_to() {
+        let counts = |ours: f64, rust: f64| {
+            let costs = |ours: f64, rust: f64| [(Way::Ours, ours), (Way::Rust, rust)];
+            fetch_limits(&[
+                line(Job::Take, "1 bit", &costs(40.0, 50.0)),
+                line(Job::Take, "8 bits", &costs(ours, rust)),
+            ])
+        };
+        assert_eq!(
+            counts(58.9, 58.9),
+            "Limits in instructions, fetching bits: below 59, and at most the Rust codec's, 40.0 of 50.0 (1 \
+             bit), 58.9 of 58.9 (8 bits). All are kept."
+        );
+        for counts in [counts(59.0, 60.0), counts(50.0, 49.9)] {
             assert!(counts.ends_with("**Not all are kept.**"), "{counts}");
         }
     }
