@@ -2,7 +2,6 @@
 // time, and no step for each bit.
 use bits::BitPlace;
 use bits::Fetched;
-use bits::OctetSize;
 use bits::Stored;
 ghost use mathlib.Core.Path.{_≡_};
 ghost use Prim.Native.Nat.{_+_, _-_, _*_, _%_, _<_, _≤_, _^_};
