@@ -3,7 +3,7 @@
 fn main() {
     let mut input = [0u8; buffers::INPUT];
     let mut output = [0u8; buffers::OUTPUT];
-    let mut values = [0i64; turns::VALUES];
-    let end = stream::answer_input(&mut input, &mut output, &mut values);
+    let mut values = [0i64; programs::VALUES];
+    let end = stream::answer_frames(&mut input, &mut output, &mut values);
     buffers::write(&output, end);
 }

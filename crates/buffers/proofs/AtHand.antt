@@ -28,8 +28,7 @@ refilled s moved part = putMid (s .end - s .from) (length moved - (s .end - s .f
 
 held-read : (s : State) (have count : ℕ) → Held (readTo s have count) → HeldAfter (afterRead s have count)
 held-read s have (suc count) held = held
-held-read s (suc have) zero held = held
-held-read s zero zero held = held
+held-read s have zero held = held
 
 -- what a read of so many octets behind those at hand leads to, once the lines are written
 abbrev readOn : State → ℕ → Led

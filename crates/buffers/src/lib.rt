@@ -1,55 +1,40 @@
-// The buffers of the bench program (document 01): the input is read as a stream into one that holds any frame whole, and lines stand in
-// the other until they are written. Lines are written before the program waits for input.
-ghost use Prim.Native.Nat.{_+_, _-_, _<_, _≤_, min};
+// The buffers of a program that takes units from its input: the input is read as a stream into one that holds any unit whole, and lines
+// stand in the other until they are written. Lines are written before the program waits for input.
+ghost use Prim.Native.Nat.{_+_, _-_, _<_, _≤_};
 ghost use mathlib.Core.Path.{_≡_};
 ghost use lib.ListN.{length, take, drop};
-ghost use Rattle.buffers.specs.Held.{Held, HeldAfter, afterFrame};
+ghost use Rattle.buffers.specs.Held.{Held, HeldAfter, afterUnit};
 ghost use Rattle.buffers.specs.InputOutput.{Wrote, Read, afterWrite, afterRead};
 
-// The sizes of the buffers: a frame has at most 65,535 octets, and a line of 1,024 values fewer than 22,600.
+// The sizes of the buffers: a unit has at most 65,535 octets, and a line of 1,024 values fewer than 22,600.
 pub const INPUT: usize = 65536;
 
 pub const OUTPUT: usize = 65536;
 
-// What the program holds: the octets read and not used, which are those from `from` up to `end`; the lines not written, up to
-// `lines`; how many octets and frames of the input came before.
+// What a program holds: the octets read and not used, which are those from `from` up to `end`; the lines not written, up to `lines`.
 pub struct State {
     pub from: usize,
     pub end: usize,
     pub lines: usize,
-    pub offset: u64,
-    pub frames: u64,
 }
 
-// What a turn leads to: the next one, the end of the input, a bad frame, or an output that takes no more.
+// What a turn leads to: the next one, the end of the input, a stop before it, or an output that takes no more.
 pub enum Led {
     Next(State),
     End(State),
-    Bad(State),
+    Stop(State),
     Lost,
 }
 
-// A count that stops at the largest number. No input is that long.
-fn sum(a: u64, b: u64) -> u64
-    ensures { λ r. ⌜ r ≡ min (a + b) 18446744073709551615 ⌝ }
-{
-    if u64::MAX - a < b { u64::MAX } else { a + b }
-}
-
-// What is held after a frame of a size, whose line ends at an index of the output.
+// What is held after a unit of a size, whose line ends at an index of the output.
 pub fn after(s: State, size: usize, lines: usize) -> State
     requires { ⌜ s .from + size ≤ s .end ⌝ }
-    ensures { λ r. ⌜ r ≡ afterFrame s size lines ⌝ }
+    ensures { λ r. ⌜ r ≡ afterUnit s size lines ⌝ }
 {
-    let from = s.from + size;
-    let offset = sum(s.offset, size as u64);
-    let frames = sum(s.frames, 1);
     State {
-        from,
+        from: s.from + size,
         end: s.end,
         lines,
-        offset,
-        frames,
     }
 }
 
@@ -99,8 +84,6 @@ fn after_read(s: State, have: usize, count: usize) -> Led
     next.end = have + count;
     if 0 < count {
         Led::Next(next)
-    } else if 0 < have {
-        Led::Bad(next)
     } else {
         Led::End(next)
     }

@@ -4,8 +4,7 @@ use mathlib.Core.List.{[], _∷_}
 use lib.IntN.{pos}
 use Rattle.answer.specs.Numbers.{refusalAt}
 use Rattle.items.specs.Reading.{accept, refuse}
-use Rattle.lines.specs.Text.{decimalWithin, decimal, signed, listed, numberLine, acceptedLine, refusedLine}
-use Rattle.frames.specs.Frames.{outcomeLine, lastLine}
+use Rattle.lines.specs.Text.{decimalWithin, decimal, signed, listed, numberLine, placedLine, acceptedLine, refusedLine, outcomeLine, lastLine}
 
 -- ok 9: 0 0 3 0 0 32 2 72 105
 first-line :
@@ -16,7 +15,7 @@ first-line = refl
 
 -- no 2 at 8
 second-line : outcomeLine (refuse (refusalAt 2 8)) ≡ 110 ∷ 111 ∷ 32 ∷ 50 ∷ 32 ∷ 97 ∷ 116 ∷ 32 ∷ 56 ∷ 10 ∷ []
-unfolding decimalWithin decimal numberLine refusedLine
+unfolding decimalWithin decimal numberLine placedLine refusedLine
 second-line = refl
 
 -- frames 2

@@ -1,3 +1,2 @@
 mod Example
 pub mod Fronts
-mod Told

@@ -1,34 +1,27 @@
--- The frames of the bench program and the line of each (document 01, "The bench program").
-use Prim.Native.Nat.{ℕ, _-_}
+-- The bench program (document 01, "The bench program"): its frames, the line of each, its last lines, and the whole of it as a machine.
+use Prim.Native.Nat.{ℕ}
 use mathlib.Core.Bool.{cond}
-use mathlib.Core.List.{List, [], _∷_}
+use mathlib.Core.List.{List, [], _∷_, _++_}
 use lib.Dec.{ltb, eqb}
-use lib.ListN.{length, take, drop}
+use lib.ListN.{length, drop}
 use Rattle.octets.specs.Numbers.{u16}
-use Rattle.items.specs.Reading.{ReadOutcome, accept, refuse}
 use Rattle.encoding.specs.Reading.{readOutcome}
 use Rattle.builtin.specs.Tables.{sam, srm}
 use Rattle.lm.specs.ByName.{readLmOutcome}
-use Rattle.lines.specs.Text.{numberLine, acceptedLine, refusedLine}
-use Rattle.frames.specs.declared.Frame.{Frame}
-use Rattle.frames.specs.declared.Frame.the-variants.{Whole, Part, Bad}
+use Rattle.lines.specs.Text.{numberLine, outcomeLine, lastLine}
+use Rattle.machine.specs.declared.Front.{Front}
+use Rattle.machine.specs.declared.Front.the-variants.{Whole, Part, Wrong}
+use Rattle.machine.specs.declared.Before.{Before}
+use Rattle.machine.specs.Counts.{afterUnit}
+use Rattle.machine.specs.Machine.{Machine}
 
 -- what octets begin with. The first two are the length of the whole frame, the next two its kind; a length under 4 is no frame's.
-unfoldable pub firstFrame : List ℕ → Frame
+unfoldable pub firstFrame : List ℕ → Front
 firstFrame s =
     cond (ltb (length s) 4) Part
-    (cond (ltb (u16 s 0) 4) Bad
+    (cond (ltb (u16 s 0) 4) Wrong
     (cond (ltb (length s) (u16 s 0)) Part
-    (Whole (u16 s 0) (u16 s 2))))
-
--- the message of a frame of a size
-abbrev pub messageOf : List ℕ → ℕ → List ℕ
-messageOf s size = take (size - 4) (drop 4 s)
-
--- `ok N: v v v` or `no R at P`
-abbrev pub outcomeLine : ReadOutcome → List ℕ
-outcomeLine (accept vs bits) = acceptedLine (length vs) vs
-outcomeLine (refuse refusal) = refusedLine refusal
+    (Whole (u16 s 0))))
 
 -- `no kind K`
 abbrev pub kindLine : ℕ → List ℕ
@@ -42,10 +35,30 @@ messageLine kind message room =
     (cond (eqb kind 3) (outcomeLine (readOutcome srm message room))
     (kindLine kind)))
 
+-- the line of a whole frame: its message stands behind its length and its kind
+abbrev pub frameLine : List ℕ → ℕ → List ℕ
+frameLine frame room = messageLine (u16 frame 2) (drop 4 frame) room
+
 -- `bad frame at N`
 abbrev pub badLine : ℕ → List ℕ
 badLine n = numberLine (98 ∷ 97 ∷ 100 ∷ 32 ∷ 102 ∷ 114 ∷ 97 ∷ 109 ∷ 101 ∷ 32 ∷ 97 ∷ 116 ∷ 32 ∷ []) n
 
--- `frames N`
-abbrev pub lastLine : ℕ → List ℕ
-lastLine n = numberLine (102 ∷ 114 ∷ 97 ∷ 109 ∷ 101 ∷ 115 ∷ 32 ∷ []) n
+-- the last lines at a bad frame: the input's octets before it, and the frames
+abbrev pub stopLines : Before → List ℕ
+stopLines before = badLine (before .octets) ++ lastLine (before .units)
+
+-- the last lines where the input ends: after the last frame, or inside one
+abbrev pub endLines : Before → List ℕ → List ℕ
+endLines before [] = lastLine (before .units)
+endLines before (x ∷ left) = stopLines before
+
+-- The bench program, with room for 1,024 values.
+abbrev pub bench : Machine Before
+bench =
+    record {
+      front = λ before s. firstFrame s;
+      line = λ before frame. frameLine frame 1024;
+      next = λ before frame. afterUnit before (length frame);
+      stopped = stopLines;
+      ended = endLines;
+    }

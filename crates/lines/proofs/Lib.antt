@@ -1,3 +1,4 @@
 mod Decimal
 mod Signs
 pub mod Texts
+pub mod Told

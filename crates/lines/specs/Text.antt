@@ -1,4 +1,4 @@
--- The lines that the programs print (document 01, "The bench program"), as octets: decimal notation, and the line of an answer.
+-- The lines that the programs print (document 01, "The bench program"), as octets: decimal notation, the line of an answer, and the count of frames.
 use Prim.Native.Nat.{ℕ, zero, suc, _+_, _/_, _%_}
 use mathlib.Core.Bool.{cond}
 use mathlib.Core.Path.{_≡_}
@@ -9,6 +9,7 @@ use lib.ListN.{length, take}
 use Rattle.answer.specs.declared.Refusal.{Refusal}
 use Rattle.answer.specs.declared.Answer.{Answer}
 use Rattle.answer.specs.declared.Answer.the-variants.{Accepted, Refused}
+use Rattle.items.specs.Reading.{ReadOutcome, accept, refuse}
 
 -- what putting a text into a slice from an index on leaves: the index after it, up to which the slice has what stood before it,
 -- then the text
@@ -43,11 +44,24 @@ listed (v ∷ vs) = 32 ∷ (signed v ++ listed vs)
 unfoldable pub acceptedLine : ℕ → List ℤ → List ℕ
 acceptedLine n vs = (111 ∷ 107 ∷ 32 ∷ []) ++ (decimal n ++ ((58 ∷ []) ++ (listed vs ++ (10 ∷ []))))
 
+-- a line of words, a number, and ` at ` with a place
+unfoldable pub placedLine : List ℕ → ℕ → ℕ → List ℕ
+placedLine words n place = words ++ (decimal n ++ numberLine (32 ∷ 97 ∷ 116 ∷ 32 ∷ []) place)
+
 -- `no R at P`
 unfoldable pub refusedLine : Refusal → List ℕ
-refusedLine r = (110 ∷ 111 ∷ 32 ∷ []) ++ (decimal (r .number) ++ numberLine (32 ∷ 97 ∷ 116 ∷ 32 ∷ []) (r .place))
+refusedLine r = placedLine (110 ∷ 111 ∷ 32 ∷ []) (r .number) (r .place)
 
 -- the line of an answer, and of what the value slice then holds
 abbrev pub answerLine : Answer → List ℤ → List ℕ
 answerLine (Accepted c) vs = acceptedLine (c .values) (take (c .values) vs)
 answerLine (Refused r) vs = refusedLine r
+
+-- the line of an outcome of reading: `ok N: v v v` or `no R at P`
+abbrev pub outcomeLine : ReadOutcome → List ℕ
+outcomeLine (accept vs bits) = acceptedLine (length vs) vs
+outcomeLine (refuse refusal) = refusedLine refusal
+
+-- `frames N`
+abbrev pub lastLine : ℕ → List ℕ
+lastLine n = numberLine (102 ∷ 114 ∷ 97 ∷ 109 ∷ 101 ∷ 115 ∷ 32 ∷ []) n

@@ -8,7 +8,7 @@ ghost use mathlib.Core.List.{_∷_};
 ghost use mathlib.Core.Path.{_≡_};
 ghost use lib.IntN.{natAbs};
 ghost use lib.ListN.{length, take};
-ghost use Rattle.lines.specs.Text.{Appended, decimal, numberLine, signed, listed, acceptedLine, refusedLine, answerLine};
+ghost use Rattle.lines.specs.Text.{Appended, decimal, numberLine, placedLine, signed, listed, acceptedLine, refusedLine, answerLine, lastLine};
 
 // Octets as they are.
 pub fn put_text(out: &mut [u8], at: usize, text: &[u8]) -> usize
@@ -111,15 +111,24 @@ fn put_accepted(out: &mut [u8], at: usize, count: usize, values: &[i64]) -> usiz
     put_text(out, end, b"\n")
 }
 
+// A line of words, a number and the place that it is told for.
+pub fn put_placed(out: &mut [u8], at: usize, words: &[u8], number: u64, place: u64) -> usize
+    requires { ⌜ at + length (now words) + 45 ≤ length (now out) ⌝ }
+    ensures { λ r. ⌜ Appended (now (out .entry)) at (placedLine (now (words .entry)) number place) (now (out .exit)) r ⌝ }
+    ensures { λ r. ⌜ r ≤ at + length (now (words .entry)) + 45 ⌝ }
+{
+    let first = put_text(out, at, words);
+    let middle = put_number(out, first, number);
+    put_line(out, middle, b" at ", place)
+}
+
 // The line of a refusal: its number and its place.
 fn put_refusal(out: &mut [u8], at: usize, refusal: Refusal) -> usize
     requires { ⌜ at + 48 ≤ length (now out) ⌝ }
     ensures { λ r. ⌜ Appended (now (out .entry)) at (refusedLine refusal) (now (out .exit)) r ⌝ }
     ensures { λ r. ⌜ r ≤ at + 48 ⌝ }
 {
-    let first = put_text(out, at, b"no ");
-    let middle = put_number(out, first, refusal.number as u64);
-    put_line(out, middle, b" at ", refusal.place as u64)
+    put_placed(out, at, b"no ", refusal.number as u64, refusal.place as u64)
 }
 
 // The line of an answer to reading into a slice of values.
@@ -132,4 +141,13 @@ pub fn put_answer(out: &mut [u8], at: usize, answer: Answer, values: &[i64]) -> 
         Answer::Accepted(counts) => put_accepted(out, at, counts.values, values),
         Answer::Refused(refusal) => put_refusal(out, at, refusal),
     }
+}
+
+// `frames N`.
+pub fn put_last(out: &mut [u8], at: usize, frames: u64) -> usize
+    requires { ⌜ at + 28 ≤ length (now out) ⌝ }
+    ensures { λ r. ⌜ Appended (now (out .entry)) at (lastLine frames) (now (out .exit)) r ⌝ }
+    ensures { λ r. ⌜ r ≤ at + 28 ⌝ }
+{
+    put_line(out, at, b"frames ", frames)
 }

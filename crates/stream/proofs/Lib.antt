@@ -1,2 +1,3 @@
-mod OneText
+mod Parts
 mod Runs
+pub mod Texts

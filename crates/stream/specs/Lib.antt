@@ -1,2 +1,3 @@
 pub mod LastLines
 pub mod Program
+pub mod Texts

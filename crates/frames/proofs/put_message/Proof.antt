@@ -8,7 +8,7 @@ use Rattle.encoding.specs.Reading.{readOutcome}
 use Rattle.builtin.specs.Tables.{sam, srm}
 use Rattle.lm.specs.ByName.{readLmOutcome}
 use Rattle.frames.specs.Frames.{messageLine}
-use Rattle.frames.proofs.Told.{line-told}
+use Rattle.lines.proofs.Told.{line-told}
 use Rattle.frames.proofs.put_message.Statement.{statement}
 use Rattle.frames.proofs.put_message.Tie as tie
 

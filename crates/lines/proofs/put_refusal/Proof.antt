@@ -1,20 +1,15 @@
--- `lines::put_refusal` meets its contract: its three texts, one after another.
+-- `lines::put_refusal` meets its contract.
 use native.Mathlib.Omega.{arith}
 use borrow.Author.Needs.{needs}
 use Rattle.lines.specs.Text.{refusedLine}
-use Rattle.lines.proofs.Texts.{put-both}
 use Rattle.lines.proofs.put_refusal.Statement.{statement}
 use Rattle.lines.proofs.put_refusal.Tie as tie
 
 returns : tie.Need-returns
 unfolding refusedLine
 returns c =
-    let a = c .before .before .before .before .before .before .before .before .before .before .before .before .put-text in
-    let b = c .before .before .before .before .before .before .before .put-number in
-    let d = c .before .before .put-line in (
-      put-both (a .ensures) (put-both (b .ensures .0) (d .ensures .0)),
-      omega (arith, a .ensures .counted, b .ensures .1, d .ensures .1),
-    )
+    let p = c .before .before .put-placed .ensures in
+    (p .0, omega (arith, p .1))
 
 pub put-refusal-spec : {M : Type 1} → statement M
-put-refusal-spec = tie.close (tie.spec (λ c. search needs) (λ c κs. search needs) (λ c. search needs) (λ c κs. search needs) (λ c. search needs) (λ c κs. search needs) (λ c. search needs) returns)
+put-refusal-spec = tie.close (tie.spec (λ c. search needs) (λ c. search needs) (λ c κs. search needs) (λ c. search needs) returns)

@@ -10,6 +10,8 @@ use lib.ListN.{length}
 use Rattle.buffers.specs.declared.State.{State}
 use Rattle.buffers.specs.declared.Led.the-variants.{Next}
 use Rattle.buffers.specs.Held.{Held}
+use Rattle.programs.specs.declared.Progress.{Progress}
+use Rattle.programs.specs.Programs.{programs}
 use Rattle.turns.specs.Turns.{Turned}
 use Rattle.stream.specs.Program.{Ran, start, turn}
 use Rattle.buffers.proofs.Tags.{no-tag}
@@ -17,22 +19,23 @@ use Rattle.stream.proofs.run.Statement.{statement}
 use Rattle.stream.proofs.run.Tie as tie
 
 -- the turns so far, and those that are left
-record Running (input output : List ℕ) (s : State) (left : ℕ) : Type 0 where
+record Running (first : Progress) (input output : List ℕ) (s : State) (progress : Progress) (left : ℕ) : Type 0 where
   octets : List ℕ
   text : List ℕ
   done : ℕ
-  ran : Ran octets text done input output (Next s)
+  ran : Ran programs first octets text done input output (Next s) progress
   sum : done + left ≡ 18446744073709551615
 
-more : {input output input′ output′ : List ℕ} {s r : State} {left : ℕ} → Running input output s left
-    → Turned s input output input′ output′ (Next r) → 0 < left → Running input′ output′ r (left - 1)
+more : {first progress progress′ : Progress} {input output input′ output′ : List ℕ} {s r : State} {left : ℕ} → Running first input output s progress left
+    → Turned programs s progress input output input′ output′ (Next r) progress′ → 0 < left → Running first input′ output′ r progress′ (left - 1)
 more so t h = record { octets = _; text = _; done = so .done + 1; ran = turn (so .ran) t; sum = omega (arith, so .sum) }
 
 abbrev Inv-loop : tie.InvT-loop
-Inv-loop input₀ output₀ values₀ s₀ turns₀ input output values s turns = Held s × (length input ≡ 65536) × (length output ≡ 65536) × (length values ≡ 1024) × Running input output s turns
+Inv-loop input₀ output₀ values₀ s₀ progress₀ turns₀ input output values s progress turns =
+    Held s × (length input ≡ 65536) × (length output ≡ 65536) × (length values ≡ 1024) × Running progress₀ input output s progress turns
 
 abbrev μ-loop : tie.MeasureT-loop
-μ-loop input₀ output₀ values₀ s₀ turns₀ input output values s turns = turns
+μ-loop input₀ output₀ values₀ s₀ progress₀ turns₀ input output values s progress turns = turns
 
 loop-holds : tie.Need-loop-holds Inv-loop μ-loop
 loop-holds c =
@@ -49,7 +52,7 @@ loop-again : tie.Need-loop-again Inv-loop μ-loop
 loop-again c =
     let so = c .before .before .before .before .before .before .before .before .before .before .before .before .before .loop in
     let t = c .before .before .before .before .before .before .before .before .turn in
-    let next = rw (c .before .result .given .1) at (t .ensures) in
+    let next = rw (c .before .led .given .1) at (t .ensures) in
     (next .0, t .kept .0 ∙ so .inv .1, t .kept .1 .0 ∙ so .inv .2, t .kept .1 .1 .0 ∙ so .inv .3, more (so .inv .4) (next .1) (omega arith))
 
 returns : tie.Need-returns Inv-loop μ-loop

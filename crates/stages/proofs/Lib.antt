@@ -1,0 +1,2 @@
+pub mod Fronts
+mod Headers
