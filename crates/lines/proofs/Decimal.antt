@@ -5,8 +5,8 @@ use mathlib.Core.Bool.{Bool, true, false, cond}
 use mathlib.Core.List.{List, [], _∷_, _++_}
 use native.Mathlib.Nat.{pow-suc, pow-le-pow-right}
 use native.Mathlib.Omega.{arith}
-use borrow.Author.Tests.{lt-ltb, le-ltb, leb-true, leb-false}
-use lib.Dec.{leb}
+use borrow.Author.Tests.{lt-ltb, le-ltb, ltb-true, ltb-false, leb-true, leb-false}
+use lib.Dec.{leb, ltb}
 use Rattle.io.specs.Digits.{digits, glyph, Fewest}
 use Rattle.lines.specs.Text.{decimal, decimalWithin}
 
@@ -26,6 +26,28 @@ one-digit f n h = rw (lt-ltb n 10 h)
 more-digits : (f n : ℕ) → 10 ≤ n → decimalWithin (suc f) n ≡ decimalWithin f (n / 10) ++ ((48 + n % 10) ∷ [])
 unfolding decimalWithin
 more-digits f n h = rw (le-ltb n 10 h)
+
+-- room for more digits than there are changes nothing
+same-within : (f g n : ℕ) → n < f → n < g → decimalWithin f n ≡ decimalWithin g n
+same-within zero g n h k = absurd (omega arith)
+same-within (suc f) zero n h k = absurd (omega arith)
+same-within (suc f) (suc g) n h k = go (ltb n 10) refl (λ p q. same-within f g (n / 10) p q)
+  where
+    go : (b : Bool) → ltb n 10 ≡ b → (n / 10 < f → n / 10 < g → decimalWithin f (n / 10) ≡ decimalWithin g (n / 10))
+        → decimalWithin (suc f) n ≡ decimalWithin (suc g) n
+    go true e shorter = one-digit f n (ltb-true n 10 e) ∙ sym (one-digit g n (ltb-true n 10 e))
+    go false e shorter =
+        let tens = ltb-false n 10 e in
+        more-digits f n tens ∙ ap (λ (x : List ℕ). x ++ ((48 + n % 10) ∷ [])) (shorter (omega arith) (omega arith)) ∙ sym (more-digits g n tens)
+
+-- a number below 10, and any other by its last digit
+pub decimal-digit : (n : ℕ) → n < 10 → decimal n ≡ (48 + n) ∷ []
+unfolding decimal
+decimal-digit n h = one-digit n n h
+
+pub decimal-tens : (n : ℕ) → 10 ≤ n → decimal n ≡ decimal (n / 10) ++ ((48 + n % 10) ∷ [])
+unfolding decimal
+decimal-tens n h = more-digits n n h ∙ ap (λ (x : List ℕ). x ++ ((48 + n % 10) ∷ [])) (same-within n (suc (n / 10)) (n / 10) (omega arith) (omega arith))
 
 last-digit : (n : ℕ) → glyph (n % 10) ≡ 48 + n % 10
 last-digit n = glyph-digit (n % 10) (omega arith)

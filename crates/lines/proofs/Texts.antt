@@ -24,7 +24,7 @@ put-both {first} {second} {third} {at} {next} {end} {s} {t} p q =
     }
 
 -- one octet more
-put-octet : (out : List ℕ) (at octet : ℕ) → at < length out → Appended out at (octet ∷ []) (set out at octet) (suc at)
+pub put-octet : (out : List ℕ) (at octet : ℕ) → at < length out → Appended out at (octet ∷ []) (set out at octet) (suc at)
 put-octet out at octet h = record { counted = omega arith; told = take-suc-set out at octet h }
 
 -- one octet more of a text

@@ -3,8 +3,8 @@
 // A number takes at most 20 octets, and a value with its space and sign 22.
 use answer::Answer;
 use answer::Refusal;
-ghost use Prim.Native.Nat.{_+_, _*_, _≤_};
-ghost use mathlib.Core.List.{_∷_};
+ghost use Prim.Native.Nat.{_+_, _*_, _<_, _≤_};
+ghost use mathlib.Core.List.{[], _∷_};
 ghost use mathlib.Core.Path.{_≡_};
 ghost use lib.IntN.{natAbs};
 ghost use lib.ListN.{length, take};
@@ -23,8 +23,31 @@ pub fn put_text(out: &mut [u8], at: usize, text: &[u8]) -> usize
     at + i
 }
 
-// A number in decimal.
-pub fn put_number(out: &mut [u8], at: usize, number: u64) -> usize
+// A digit.
+fn put_digit(out: &mut [u8], at: usize, digit: u64) -> usize
+    requires { ⌜ (at < length (now out)) × (digit < 10) ⌝ }
+    ensures { λ r. ⌜ Appended (now (out .entry)) at ((48 + digit) ∷ []) (now (out .exit)) r ⌝ }
+{
+    out[at] = (48 + digit) as u8;
+    at + 1
+}
+
+// A number below 100.
+fn put_small(out: &mut [u8], at: usize, number: u64) -> usize
+    requires { ⌜ (at + 2 ≤ length (now out)) × (number < 100) ⌝ }
+    ensures { λ r. ⌜ Appended (now (out .entry)) at (decimal number) (now (out .exit)) r ⌝ }
+    ensures { λ r. ⌜ r ≤ at + 2 ⌝ }
+{
+    if number < 10 {
+        put_digit(out, at, number)
+    } else {
+        let next = put_digit(out, at, number / 10);
+        put_digit(out, next, number % 10)
+    }
+}
+
+// A number of any size.
+fn put_large(out: &mut [u8], at: usize, number: u64) -> usize
     requires { ⌜ at + 20 ≤ length (now out) ⌝ }
     ensures { λ r. ⌜ Appended (now (out .entry)) at (decimal number) (now (out .exit)) r ⌝ }
     ensures { λ r. ⌜ r ≤ at + 20 ⌝ }
@@ -32,6 +55,22 @@ pub fn put_number(out: &mut [u8], at: usize, number: u64) -> usize
     let mut digits = [0u8; 20];
     let count = io::decimal(number, &mut digits);
     put_text(out, at, &digits[..count])
+}
+
+// A number in decimal. Most values are octets, which need no search for the first digit.
+pub fn put_number(out: &mut [u8], at: usize, number: u64) -> usize
+    requires { ⌜ at + 20 ≤ length (now out) ⌝ }
+    ensures { λ r. ⌜ Appended (now (out .entry)) at (decimal number) (now (out .exit)) r ⌝ }
+    ensures { λ r. ⌜ r ≤ at + 20 ⌝ }
+{
+    if number < 100 {
+        return put_small(out, at, number);
+    }
+    if number < 1000 {
+        let next = put_small(out, at, number / 10);
+        return put_digit(out, next, number % 10);
+    }
+    put_large(out, at, number)
 }
 
 // A line of words and a number.

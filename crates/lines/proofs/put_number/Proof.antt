@@ -1,25 +1,24 @@
--- `lines::put_number` meets its contract. The library's digits are the fewest that hold the number, so its decimal notation.
-use mathlib.Core.Path.{sym, _∙_}
+-- `lines::put_number` meets its contract: a number below 1,000 by its last digit and those before it.
 use native.Mathlib.Omega.{arith}
 use borrow.Author.Needs.{needs}
-use Rattle.lines.proofs.Decimal.{decimal-fewest, twenty-digits}
+use Rattle.lines.proofs.Decimal.{decimal-tens}
+use Rattle.lines.proofs.Texts.{put-both}
 use Rattle.lines.proofs.put_number.Statement.{statement}
 use Rattle.lines.proofs.put_number.Tie as tie
 
-put-text-requires : tie.Need-put-text-requires
-put-text-requires c κs =
-    let start = c .before .before .before .before .before in
-    let d = c .before .before .decimal in
-    omega (arith, d .ensures .0 .1, start .pre, twenty-digits (start .args .number) (d .result) (start .fits .number .fits) (d .ensures .1 .0))
-
 returns : tie.Need-returns
 returns c =
-    let start = c .before .before .before .before .before .before .before .before in
-    let d = c .before .before .before .before .before .decimal in
-    let p = c .before .before .put-text in (
-      rw (d .ensures .1 .1 ∙ sym (decimal-fewest (start .args .number) (d .result) (d .ensures .1 .0))) at (p .ensures),
-      omega (arith, p .ensures .counted, d .ensures .0 .1, twenty-digits (start .args .number) (d .result) (start .fits .number .fits) (d .ensures .1 .0)),
-    )
+    let p = c .before .before .put-small .ensures in
+    (p .0, omega (arith, p .1))
+
+returns-2 : tie.Need-returns-2
+returns-2 c =
+    let first = c .before .before .before .before .before .before in
+    let test = first .before .before .before in
+    let number = test .before .before .args .number in
+    let p = first .put-small2 .ensures in
+    let q = c .before .before .put-digit .ensures in
+    (rw (decimal-tens number (omega (arith, test .if1 .left))) (put-both (p .0) q), omega (arith, p .1, q .counted))
 
 pub put-number-spec : {M : Type 1} → statement M
 put-number-spec =
@@ -27,7 +26,11 @@ put-number-spec =
     (tie.spec
     (λ c κs. search needs)
     (λ c. search needs)
+    returns
+    (λ c κs. search needs)
+    (λ c κs. search needs)
     (λ c. search needs)
-    put-text-requires
+    returns-2
+    (λ c κs. search needs)
     (λ c. search needs)
-    returns)
+    (λ c. search needs))
