@@ -46,6 +46,9 @@ pub enum Case {
         state: Box<StateOctets>,
         steps: Vec<Step>,
     },
+    Capture {
+        file: Vec<u8>,
+    },
 }
 
 /// What is done with a state.
@@ -115,6 +118,7 @@ impl Case {
             Case::Bench { .. } => Call::Bench,
             Case::Load { .. } => Call::Load,
             Case::ReadLoaded { .. } => Call::ReadLoaded,
+            Case::Capture { .. } => Call::Capture,
         }
     }
 
@@ -162,6 +166,7 @@ impl Case {
                 let tell = |step: &Step| step.run(codec, &mut state);
                 Outcome::Steps(steps.iter().map(tell).collect())
             }
+            Case::Capture { file } => Outcome::Printed(codec.capture(file)),
         }
     }
 }

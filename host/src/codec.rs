@@ -199,10 +199,11 @@ pub enum Call {
     Bench,
     Load,
     ReadLoaded,
+    Capture,
 }
 
 impl Call {
-    pub const ALL: [Call; 11] = [
+    pub const ALL: [Call; 12] = [
         Call::Check,
         Call::Read,
         Call::Write,
@@ -214,6 +215,7 @@ impl Call {
         Call::Bench,
         Call::Load,
         Call::ReadLoaded,
+        Call::Capture,
     ];
 }
 
@@ -274,6 +276,11 @@ pub trait Codec {
     /// Reads through a state, whatever it holds; `values` as in `read`.
     fn read_loaded(&self, _state: &StateOctets, _message: &[u8], _values: &mut [u8]) -> Answer {
         not_offered(Call::ReadLoaded)
+    }
+
+    /// What the capture program prints for this file.
+    fn capture(&self, _file: &[u8]) -> String {
+        not_offered(Call::Capture)
     }
 }
 

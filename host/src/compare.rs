@@ -6,9 +6,9 @@ use std::fmt;
 use crate::case::{Case, Outcome, Step, Table};
 use crate::codec::{value_octets, Call, Codec, Refusal, StateOctets, FRESH};
 use crate::random::{
-    allowed_list, forged_state, frames, large_list, large_lm, large_message, lm_list, lm_message,
-    message_through, nearly_passing_table, passing_table, some_budget, some_message, some_output,
-    some_room, wrong_list, Drawn, Random,
+    allowed_list, capture_file, forged_state, frames, large_list, large_lm, large_message, lm_list,
+    lm_message, message_through, nearly_passing_table, passing_table, some_budget, some_message,
+    some_output, some_room, wrong_list, Drawn, Random,
 };
 use crate::reference::{lm_table, root_of};
 use crate::vectors::{case_text, outcome_text};
@@ -184,6 +184,7 @@ fn weight(call: Call) -> u64 {
         Call::Bench => 2,
         Call::Load => 1,
         Call::ReadLoaded => 9,
+        Call::Capture => 3,
     }
 }
 
@@ -248,6 +249,9 @@ pub fn draw(random: &mut Random, calls: &[Call]) -> Case {
         Call::Load => draw_load(random),
         Call::ReadLoaded if random.one_in(3) => draw_forged(random),
         Call::ReadLoaded => draw_loaded(random),
+        Call::Capture => Case::Capture {
+            file: capture_file(random),
+        },
     }
 }
 

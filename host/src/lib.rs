@@ -11,13 +11,14 @@
 //! | `archive` | the static libraries as codecs under test |
 //! | `assemble` | a small assembler for tables |
 //! | `builtin` | the built-in tables, assembled as docs/MESSAGES.md lists their rows |
-//! | `reference` | the independent codec, written from document 01 and tickets 1 to 3 of document 02 alone; also the speed baseline |
+//! | `reference` | the independent codec, written from document 01 and tickets 1 to 3 and 6 of document 02 alone; also the speed baseline |
 //! | `mutants` | the reference with one planted fault each |
 //! | `case` | one call with its input, and the outcome of running it on a codec |
 //! | `vectors` | the text format of the case files in `vectors/`, and their runner |
 //! | `outside` | lists with the octets that UPER tools of others gave for them |
 //! | `random` | a seeded generator of tables, states, lists of values and messages |
 //! | `compare` | two codecs on many drawn cases, compared to the last octet |
+//! | `programs` | the programs that are built, and what they print |
 //! | `settings` | numbers from the environment, to repeat a test or to make it longer |
 //!
 //! Only `linked`, which a host needs, and `guarded`, for tests, have `unsafe` code.
@@ -44,6 +45,7 @@ mod linked;
 pub mod lm;
 pub mod mutants;
 pub mod outside;
+pub mod programs;
 pub mod random;
 pub mod reference;
 pub mod settings;

@@ -7,7 +7,7 @@ use crate::reference::Engine;
 macro_rules! faults {
     ($($(#[$about:meta])* $fault:ident,)*) => {
         /// What is wrong with a codec; each fault stands at one place of the reference.
-        #[derive(Clone, Copy, Debug, PartialEq, Eq)]
+        #[derive(Clone, Copy, Debug, PartialEq, Eq, PartialOrd, Ord)]
         #[repr(u8)]
         pub enum Fault {
             /// Nothing: the reference itself.
@@ -190,4 +190,75 @@ faults! {
     FieldRowsInTurn,
     /// A state made otherwise: the rows of all branches are tested before a choice's index.
     BranchRowsFirst,
+    /// Capture program: a file of nanoseconds is read.
+    NanosecondsRead,
+    /// Capture program: a file with another version in its header is not read.
+    VersionTested,
+    /// Capture program: only the low octet of the link type is looked at.
+    LinkTypeLowOctet,
+    /// Capture program: only the low two octets of the link type are looked at.
+    LinkTypeLowTwoOctets,
+    /// Capture program: a file without an octet has no records, and no stop.
+    EmptyFileRead,
+    /// Capture program: a record is refused that keeps more than the file's header says.
+    SnapLengthTested,
+    /// Capture program: a record of 2,049 octets is read.
+    KeptOneMore,
+    /// Capture program: only the low two octets of the kept length are looked at.
+    KeptLowTwoOctets,
+    /// Capture program: the file's end is told before too great a kept length (32 for 31).
+    EndBeforeKept,
+    /// Capture program: too great a kept length is told in a record header that is not whole (31 for 32).
+    CutHeaderAsMuchKept,
+    /// Capture program: a record header that is not whole is ignored.
+    CutHeaderIgnored,
+    /// Capture program: a record is told as cut that the file ends inside.
+    CutBeforeEnd,
+    /// Capture program: a record is told as cut whose kept length is above the original one.
+    KeptAboveOriginalCut,
+    /// Capture program: only the low two octets of the original length are looked at.
+    OriginalLowTwoOctets,
+    /// Capture program: an original length of 2^31 or more is taken as below 0.
+    OriginalSigned,
+    /// Capture program: the line of a cut LM is printed too.
+    CutAfterLine,
+    /// Capture program: a cut record is told only if it holds an LM.
+    CutOfLmsAlone,
+    /// Capture program: a cut record of fewer than 14 octets is not told.
+    ShortCutUntold,
+    /// Capture program: a cut record is not counted.
+    CutUncounted,
+    /// Capture program: a record of fewer than 14 octets is not counted.
+    ShortUncounted,
+    /// Capture program: a record in which the run stops is counted.
+    StoppedCounted,
+    /// Capture program: the EtherType is taken in the file's order.
+    EtherTypeInFileOrder,
+    /// Capture program: only the first octet of the EtherType is looked at.
+    EtherTypeHighOctet,
+    /// Capture program: a VLAN tag before the EtherType is skipped.
+    TagSkipped,
+    /// Capture program: zeros at the end of a frame of 60 octets are left out.
+    PaddingStripped,
+    /// Capture program: an empty LM prints nothing.
+    EmptyLmUntold,
+    /// Capture program: there is room for twice the values.
+    CaptureRoomDoubled,
+    /// Capture program: records are numbered from 1.
+    NumbersFromOne,
+    /// Capture program: only records that print a line are numbered.
+    NumbersOfLines,
+    /// Capture program: a number stands before `stop`.
+    StopNumbered,
+    /// Capture program: the place of a stop is counted from the first record.
+    OffsetsFromRecords,
+    /// Capture program: the place of a stop is that after the record's header.
+    OffsetBehindHeader,
+}
+
+impl Fault {
+    /// Whether it is one of the capture program, which are the last.
+    pub fn is_of_captures(self) -> bool {
+        self >= Fault::NanosecondsRead
+    }
 }

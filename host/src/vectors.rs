@@ -14,14 +14,15 @@
 //! | `element ID HOME` | `here`, `elsewhere` or `unknown` |
 //! | `take BASIS MESSAGE K,K,..` | `ok` or `no:13:0:0`, then `ok:NUMBER:PLACE` or `no:NUMBER:PLACE:0` for each |
 //! | `bench BASIS STREAM` | the text printed, with a bar for each line end |
+//! | `capture BASIS FILE` | the same |
 //! | `loaded BASIS STEPS` | what each step from a fresh state on told |
 //! | `forged BASIS STATE STEPS` | what each step from this state on told, its octets being anything |
 //! | `stored BASIS TABLE;TABLE;..` | `none`, or `TABLE 1 ROWS DEPTHS`: what a fresh state holds after these loads |
 //!
 //! BASIS is `-` where document 01 alone decides, and else the tickets of document 02 that may, `1`,
-//! `1,2` or `1,2,3`: a line whose refusal is 20 or above has one of these. TABLE is octets, or `LM` for
-//! the built-in table by name. A refusal is `no NUMBER PLACE 0`; the last cell is kept for a later count
-//! of missing bits.
+//! `1,2`, `1,2,3` or `1,2,6`: a line whose refusal is 20 or above has one of these. TABLE is octets, or
+//! `LM` for the built-in table by name. A refusal is `no NUMBER PLACE 0`; the last cell is kept for a
+//! later count of missing bits.
 //!
 //! STEPS are joined by `;`: `L:TABLE` loads, `R:MESSAGE:ROOM` reads. What they told stands in the same
 //! order, joined by `;`: `ok` for a load, `ok:COUNT:BITS:VALUES` for a reading, `no:NUMBER:PLACE:0`.
@@ -45,7 +46,8 @@ pub const EDGES: &str = include_str!("../vectors/edges.txt");
 pub const STAGE01: &str = include_str!("../vectors/stage01.txt");
 pub const STAGE02: &str = include_str!("../vectors/stage02.txt");
 pub const LOADED: &str = include_str!("../vectors/loaded.txt");
-pub const FILES: [&str; 5] = [BASE, EDGES, STAGE01, STAGE02, LOADED];
+pub const CAPTURE: &str = include_str!("../vectors/capture.txt");
+pub const FILES: [&str; 6] = [BASE, EDGES, STAGE01, STAGE02, LOADED, CAPTURE];
 
 /// A call with the outcome that it has to have.
 #[derive(Clone, Debug)]
@@ -163,6 +165,13 @@ impl<'a> Cells<'a> {
         }
     }
 
+    /// The rest of the line, as a text that was printed.
+    fn printed(&mut self) -> Outcome {
+        let text = self.0.replace('|', "\n");
+        self.0 = "";
+        Outcome::Printed(text)
+    }
+
     fn end(&self) -> Result<(), String> {
         if self.0.is_empty() {
             return Ok(());
@@ -178,7 +187,7 @@ fn parse_line(words: &str, tail: usize) -> Result<(Case, Outcome), String> {
         "element" => false,
         _ => match cells.next()? {
             "-" => false,
-            "1" | "1,2" | "1,2,3" => true,
+            "1" | "1,2" | "1,2,3" | "1,2,6" => true,
             cell => {
                 return Err(format!(
                     "{cell} is neither document 01 nor tickets of document 02"
@@ -279,9 +288,11 @@ fn parse_line(words: &str, tail: usize) -> Result<(Case, Outcome), String> {
         }
         "bench" => {
             let stream = cells.octets()?;
-            let text = cells.0.replace('|', "\n");
-            cells.0 = "";
-            (Case::Bench { stream }, Outcome::Printed(text))
+            (Case::Bench { stream }, cells.printed())
+        }
+        "capture" => {
+            let file = cells.octets()?;
+            (Case::Capture { file }, cells.printed())
         }
         "loaded" => steps(FRESH, &mut cells, tail)?,
         "forged" => {
@@ -574,6 +585,7 @@ pub fn case_text(case: &Case) -> String {
             };
             format!("{begun} {}", steps.join(";"))
         }
+        Case::Capture { file } => format!("capture 1,2,6 {}", octets_cell(file)),
     }
 }
 
@@ -667,6 +679,8 @@ mod tests {
             "loaded 1,2,3 R:00 no:27:0:0",
             "loaded 1,2,3 L:04000200;R:07:0 ok;ok:1:8:7",
             "loaded - R:00:1 no:27:0:0",
+            "capture 1,2,6",
+            "capture 1,2,9 - stop 30 at 0|frames 0|",
             "forged 1,2,3 00*6159 R:00:1 no:27:0:0",
             "stored 1,2,3 04000200 04000200 2 1 0/1",
             "stored 1,2,3 04000200 04000200 1 1 0",

@@ -1,9 +1,9 @@
 //! The case files of `vectors/`, run against the reference codec.
 
 use teyolxan_host::codec::Call;
-use teyolxan_host::mutants;
+use teyolxan_host::mutants::{self, Fault};
 use teyolxan_host::reference::REFERENCE;
-use teyolxan_host::vectors::{parse, run, BASE, EDGES, LOADED, STAGE01, STAGE02};
+use teyolxan_host::vectors::{parse, run, BASE, CAPTURE, EDGES, LOADED, STAGE01, STAGE02};
 
 /// Runs a case file and asks that every case has its outcome.
 fn passes(text: &str) -> usize {
@@ -30,7 +30,7 @@ fn base() {
 
 #[test]
 fn edges() {
-    assert_eq!(passes(EDGES), 629);
+    assert_eq!(passes(EDGES), 685);
 }
 
 #[test]
@@ -48,14 +48,33 @@ fn loaded() {
     assert_eq!(passes(LOADED), 443);
 }
 
-/// The cases that were worked out by hand find every fault, without the others.
 #[test]
-fn planted_faults_are_found() {
-    let vectors = parse(EDGES).expect("the file is well formed");
-    let missed: Vec<_> = mutants::all()
+fn capture() {
+    assert_eq!(passes(CAPTURE), 569);
+}
+
+/// The faults that no case of a file finds.
+fn missed_by(text: &str) -> Vec<Fault> {
+    let vectors = parse(text).expect("the file is well formed");
+    mutants::all()
         .into_iter()
         .filter(|(_, mutant)| run(mutant.as_ref(), &vectors).differences.is_empty())
         .map(|(fault, _)| fault)
-        .collect();
+        .collect()
+}
+
+/// The cases that were worked out by hand find every fault, without the others.
+#[test]
+fn planted_faults_are_found() {
+    let missed = missed_by(EDGES);
     assert!(missed.is_empty(), "not found: {missed:?}");
+}
+
+/// The cases of captures find the faults of the capture program, without the others. One needs an
+/// original length above 65,535 with low octets that are not above the kept length's.
+#[test]
+fn planted_faults_of_captures_are_found() {
+    let mut missed = missed_by(CAPTURE);
+    missed.retain(|fault| fault.is_of_captures());
+    assert_eq!(missed, [Fault::OriginalLowTwoOctets]);
 }

@@ -1,17 +1,19 @@
 //! A seeded generator, and what is drawn with it: tables that pass the check and tables that nearly
-//! do, states that nobody loaded, lists of values under a passing table, messages, and wrong variants
-//! of both.
+//! do, states that nobody loaded, lists of values under a passing table, messages, wrong variants of
+//! both, and captures.
 //!
 //! Lists are drawn together with the bits of each value, so that a message can be put together
 //! without a codec, and spoilt at one item. Most of what is drawn is small.
 
 mod broken;
+mod captures;
 mod large;
 mod lists;
 mod messages;
 mod states;
 mod tables;
 
+pub use captures::{capture_file, Order};
 pub use large::{large_list, large_lm, large_message};
 pub use lists::{allowed_list, pack, some_budget, wrong_list, Drawn, Form, Item};
 pub use messages::{

@@ -35,25 +35,30 @@ impl<const F: u8> Engine<F> {
                     continue;
                 }
             };
-            match answer {
-                Answer::Accepted { values: count, .. } => {
-                    let _ = write!(text, "ok {count}:");
-                    for value in &values[..count as usize] {
-                        let _ = write!(text, " {value}");
-                    }
-                    text.push('\n');
-                }
-                Answer::Refused { number, place } => {
-                    line(&mut text, format_args!("no {number} at {place}"));
-                }
-            }
+            answer_line(&mut text, answer, &values);
         }
         line(&mut text, format_args!("frames {frames}"));
         text
     }
 }
 
-fn line(text: &mut String, words: std::fmt::Arguments) {
+/// The line for what a reading into these values answered.
+pub(super) fn answer_line(text: &mut String, answer: Answer, values: &[i64]) {
+    match answer {
+        Answer::Accepted { values: count, .. } => {
+            let _ = write!(text, "ok {count}:");
+            for value in &values[..count as usize] {
+                let _ = write!(text, " {value}");
+            }
+            text.push('\n');
+        }
+        Answer::Refused { number, place } => {
+            line(text, format_args!("no {number} at {place}"));
+        }
+    }
+}
+
+pub(super) fn line(text: &mut String, words: std::fmt::Arguments) {
     let _ = text.write_fmt(words);
     text.push('\n');
 }

@@ -1,5 +1,5 @@
-//! The independent codec, written from document 01 and tickets 1 to 3 of document 02 alone: what
-//! other codecs are compared with, and the baseline for their speed.
+//! The independent codec, written from document 01 and tickets 1 to 3 and 6 of document 02 alone:
+//! what other codecs are compared with, and the baseline for their speed.
 //!
 //! No call panics or overflows, whatever it is given. Reading and writing allocate nothing.
 //!
@@ -18,9 +18,11 @@
 //! | `elements` | the known extension elements |
 //! | `opened` | the opened message |
 //! | `bench` | the bench program |
+//! | `capture` | the capture program |
 
 mod bench;
 mod bits;
+mod capture;
 mod elements;
 mod lm;
 mod loaded;
@@ -51,7 +53,7 @@ pub const LENGTH_MOST: u32 = 16_383;
 pub const VARIABLE_MOST: i64 = VARIABLE_BASES[3] + (1 << 28) - 1;
 /// What is added to the content of a variable number of 1, 2, 3 and 4 octets.
 pub const VARIABLE_BASES: [i64; 4] = [0, 128, 16_512, 2_113_664];
-/// The room for values in the bench program.
+/// The room for values in the bench program, and in the capture program.
 pub const BENCH_ROOM: usize = 1_024;
 
 /// The codec with a planted fault.
@@ -186,6 +188,11 @@ pub fn bench_with(input: &[u8], sam: &[u8], srm: &[u8]) -> String {
     Reference::run_bench(input, sam, srm)
 }
 
+/// What the capture program prints.
+pub fn capture(file: &[u8]) -> String {
+    Reference::run_capture(file)
+}
+
 // ---- As a codec under test -------------------------------------------------------------------
 
 impl<const F: u8> Engine<F> {
@@ -267,5 +274,9 @@ impl<const F: u8> Codec for Engine<F> {
 
     fn read_loaded(&self, state: &StateOctets, message: &[u8], values: &mut [u8]) -> Answer {
         Self::lend(values, |values| Self::read_state(state, message, values))
+    }
+
+    fn capture(&self, file: &[u8]) -> String {
+        Self::run_capture(file)
     }
 }

@@ -47,7 +47,7 @@ impl Fuzzed {
                 Call::UserData => &["probe_user_data"],
                 Call::Element => &["probe_element"],
                 Call::Take => &["probe_open", "probe_take"],
-                Call::Bench => &[],
+                Call::Bench | Call::Capture => &[],
                 Call::Load => &["teyolxan_load"],
                 Call::ReadLoaded if loads(case) => {
                     &["teyolxan_load", "teyolxan_read_loaded", "probe_read_loaded"]
