@@ -94,6 +94,15 @@ impl Report {
     }
 }
 
+/// Runs the cases of a file whose call the codec offers, asks that each has its outcome, and gives their
+/// count.
+pub fn pass(codec: &dyn Codec, text: &str) -> usize {
+    let report = run(codec, &parse(text).expect("the file is well formed"));
+    let differences = report.differences.join("\n");
+    assert!(differences.is_empty(), "{differences}");
+    report.total()
+}
+
 /// Runs every vector whose call the codec offers.
 pub fn run(codec: &dyn Codec, vectors: &[Vector]) -> Report {
     let mut report = Report::default();

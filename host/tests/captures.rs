@@ -16,7 +16,7 @@ use teyolxan_host::programs::{pairs, printed, printed_while, root};
 use teyolxan_host::random::{capture_file, Order, Random};
 use teyolxan_host::reference::{self, REFERENCE};
 use teyolxan_host::settings;
-use teyolxan_host::vectors::{parse, run, CAPTURE, EDGES};
+use teyolxan_host::vectors::{pass, CAPTURE, EDGES};
 
 /// How many files stand in host/captures.
 const CAPTURES: usize = 24;
@@ -50,13 +50,7 @@ fn text(lines: Vec<u8>) -> String {
 #[test]
 fn vectors() {
     for (text, count) in [(CAPTURE, 569), (EDGES, 56)] {
-        let report = run(&Program, &parse(text).expect("the file is well formed"));
-        assert!(
-            report.differences.is_empty(),
-            "{}",
-            report.differences.join("\n")
-        );
-        assert_eq!(report.total(), count);
+        assert_eq!(pass(&Program, text), count);
     }
 }
 

@@ -47,7 +47,7 @@ pub fn next(progress: Progress, unit: &[u8]) -> Progress
     }
 }
 
-// The line of a unit, where it has one.
+// The line of a unit, where it has one. With 1,024 values, and a record's number before it, it has at most 22,597 octets.
 pub fn put_unit(
     out: &mut [u8],
     at: usize,

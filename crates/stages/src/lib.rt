@@ -16,9 +16,6 @@ pub enum Stage {
     Records(Order, Before),
 }
 
-// What came before the first record: the file's header, which is no record.
-const FILE_HEADER: u64 = 24;
-
 // The refusals that stop a run: of the file's header; of a record's length; where the file ends inside a record.
 const FILE: u64 = 30;
 
@@ -37,7 +34,7 @@ pub fn front(stage: Stage, octets: &[u8]) -> Front
     }
 }
 
-// Where it is behind a unit: the file's header, or a record.
+// Where it is behind a unit: the file's header, which is no record, or a record.
 pub fn next(stage: Stage, unit: &[u8]) -> Stage
     requires { ⌜ headerOf stage ≤ length (now unit) ⌝ }
     ensures { λ r. ⌜ r ≡ stageAfter stage (now (unit .entry)) ⌝ }
@@ -46,7 +43,7 @@ pub fn next(stage: Stage, unit: &[u8]) -> Stage
         Stage::Opening => {
             let order = pcap::order_of(unit);
             let before = Before {
-                octets: FILE_HEADER,
+                octets: pcap::FILE_HEADER as u64,
                 units: 0,
             };
             Stage::Records(order, before)
