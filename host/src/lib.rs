@@ -16,7 +16,7 @@
 //! | `case` | one call with its input, and the outcome of running it on a codec |
 //! | `vectors` | the text format of the case files in `vectors/`, and their runner |
 //! | `outside` | lists with the octets that UPER tools of others gave for them |
-//! | `random` | a seeded generator of tables, states, lists of values and messages |
+//! | `random` | a seeded generator of tables, states, lists of values, messages and captures |
 //! | `compare` | two codecs on many drawn cases, compared to the last octet |
 //! | `programs` | the programs that are built, and what they print |
 //! | `settings` | numbers from the environment, to repeat a test or to make it longer |

@@ -70,8 +70,9 @@ fn planted_faults_are_found() {
     assert!(missed.is_empty(), "not found: {missed:?}");
 }
 
-/// The cases of captures find the faults of the capture program, without the others. One needs an
-/// original length above 65,535 with low octets that are not above the kept length's.
+/// The cases of captures find all faults of the capture program but one, without the others. That one needs
+/// an original length above 65,535 with low octets that are not above the kept length's; the cases that
+/// were worked out by hand have it.
 #[test]
 fn planted_faults_of_captures_are_found() {
     let mut missed = missed_by(CAPTURE);

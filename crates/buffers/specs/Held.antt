@@ -23,5 +23,5 @@ abbrev pub atHand : State → List ℕ → List ℕ
 atHand s input = take (s .end - s .from) (drop (s .from) input)
 
 -- what is held after a unit of a size, whose line ends at an index
-abbrev pub afterUnit : State → ℕ → ℕ → State
-afterUnit s size lines = record { from = s .from + size; end = s .end; lines = lines }
+abbrev pub heldBehind : State → ℕ → ℕ → State
+heldBehind s size lines = record { from = s .from + size; end = s .end; lines = lines }

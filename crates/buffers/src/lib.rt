@@ -3,7 +3,7 @@
 ghost use Prim.Native.Nat.{_+_, _-_, _<_, _≤_};
 ghost use mathlib.Core.Path.{_≡_};
 ghost use lib.ListN.{length, take, drop};
-ghost use Rattle.buffers.specs.Held.{Held, HeldAfter, afterUnit};
+ghost use Rattle.buffers.specs.Held.{Held, HeldAfter, heldBehind};
 ghost use Rattle.buffers.specs.InputOutput.{Wrote, Read, afterWrite, afterRead};
 
 // The sizes of the buffers: a unit has at most 65,535 octets, and a line of 1,024 values fewer than 22,600.
@@ -29,7 +29,7 @@ pub enum Led {
 // What is held after a unit of a size, whose line ends at an index of the output.
 pub fn after(s: State, size: usize, lines: usize) -> State
     requires { ⌜ s .from + size ≤ s .end ⌝ }
-    ensures { λ r. ⌜ r ≡ afterUnit s size lines ⌝ }
+    ensures { λ r. ⌜ r ≡ heldBehind s size lines ⌝ }
 {
     State {
         from: s.from + size,

@@ -1,5 +1,5 @@
-// The capture program (document 02, ticket 6): a classic capture file from standard input, a line for each LM in it on standard output, and
-// the count of records last.
+// The capture program (document 02, ticket 6): a classic capture file from standard input, a line for each LM and each cut record on
+// standard output, and the count of records last.
 
 fn main() {
     let mut input = [0u8; buffers::INPUT];

@@ -8,7 +8,7 @@ use Rattle.machine.specs.Machine.{Machine}
 use Rattle.pcap.specs.declared.Order.{Order}
 use Rattle.pcap.specs.declared.Record.{Record}
 use Rattle.pcap.specs.declared.Record.the-variants.{Cut, Lm, Other}
-use Rattle.pcap.specs.Pcap.{recordOf}
+use Rattle.pcap.specs.Pcap.{lmHeaders, recordOf}
 use Rattle.stages.specs.declared.Stage.{Stage}
 use Rattle.stages.specs.declared.Stage.the-variants.{Opening, Records}
 use Rattle.stages.specs.Stages.{frontOf, stageAfter, stoppedLines, endedLines}
@@ -24,7 +24,7 @@ lmLine n lm room = decimal n ++ (32 ∷ outcomeLine (readLmOutcome lm room))
 -- the line of a record: an LM is all that stands behind the record's header and the 14 octets of Ethernet's
 abbrev pub lineOf : Record → ℕ → List ℕ → ℕ → List ℕ
 lineOf Cut n s room = cutLine n
-lineOf Lm n s room = lmLine n (drop 30 s) room
+lineOf Lm n s room = lmLine n (drop lmHeaders s) room
 lineOf Other n s room = []
 
 abbrev pub recordLine : Order → ℕ → List ℕ → ℕ → List ℕ

@@ -23,7 +23,7 @@ pub enum Record {
 // The octets of the file's header, of a record's, and of both headers before an LM: the record's and Ethernet's.
 pub const FILE_HEADER: usize = 24;
 
-pub const RECORD_HEADER: usize = 16;
+const RECORD_HEADER: usize = 16;
 
 pub const LM_HEADERS: usize = 30;
 
@@ -102,12 +102,12 @@ pub fn file_front(file: &[u8]) -> Front
     Front::Wrong
 }
 
-// The order of a file, by its header.
+// The order of a file whose header is as asked.
 pub fn order_of(file: &[u8]) -> Order
     requires { ⌜ 24 ≤ length (now file) ⌝ }
     ensures { λ r. ⌜ r ≡ orderOf (now (file .entry)) ⌝ }
 {
-    if word_at(Order::Little, file, 0) == MICROSECONDS {
+    if is_headed(Order::Little, file) {
         Order::Little
     } else {
         Order::Big

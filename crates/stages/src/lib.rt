@@ -77,7 +77,7 @@ pub fn put_stopped(out: &mut [u8], at: usize, stage: Stage) -> usize
     }
 }
 
-// The last lines where the file ends with these octets left: inside its header; inside a record; or behind the last.
+// The last lines where the file ends with these octets left: inside its header; inside a record; or where one would begin.
 pub fn put_ended(out: &mut [u8], at: usize, stage: Stage, left: &[u8]) -> usize
     requires { ⌜ at + 78 ≤ length (now out) ⌝ }
     ensures { λ r. ⌜ Appended (now (out .entry)) at (endedLines stage (now (left .entry))) (now (out .exit)) r ⌝ }

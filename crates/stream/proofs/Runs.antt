@@ -14,7 +14,7 @@ use Rattle.machine.specs.Machine.{Machine, Steady, Gives, unit, stop, end}
 use Rattle.buffers.specs.declared.State.{State}
 use Rattle.buffers.specs.declared.Led.{Led}
 use Rattle.buffers.specs.declared.Led.the-variants.{Next, End, Stop, Lost}
-use Rattle.buffers.specs.Held.{atHand, afterUnit}
+use Rattle.buffers.specs.Held.{atHand, heldBehind}
 use Rattle.buffers.specs.InputOutput.{afterLines, readTo, afterRead}
 use Rattle.turns.specs.Turns.{Took, Turned, wrote, took, read, stopped, octetsOf, textOf}
 use Rattle.stream.specs.LastLines.{linesOf, lastText}
@@ -28,7 +28,7 @@ drop-take (suc m) zero l = rw (zero-sub (suc m))
 drop-take (suc m) (suc n) [] = sym (take-nil (suc n - suc m))
 drop-take (suc m) (suc n) (x ∷ xs) = rw (suc-sub-suc n m) (drop-take m n xs)
 
-hand-after : (s : State) (input : List ℕ) (size lines : ℕ) → drop size (atHand s input) ≡ atHand (afterUnit s size lines) input
+hand-after : (s : State) (input : List ℕ) (size lines : ℕ) → drop size (atHand s input) ≡ atHand (heldBehind s size lines) input
 hand-after s input size lines =
     let e : s .end - s .from - size ≡ s .end - (s .from + size) = omega arith in
     drop-take size (s .end - s .from) (drop (s .from) input) ∙ rw (drop-drop size (s .from) input, e)
@@ -47,13 +47,13 @@ module _ {A : Type 0} (m : Machine A) (steady : Steady m) (first : A) where
   module _ (octets text input output : List ℕ) (s : State) (a : A) (so : Told octets text input output (Next s) a) where
     told-unit : {size lines : ℕ} {output′ : List ℕ} → m .front a (atHand s input) ≡ Whole size
         → Appended output (s .lines) (m .line a (take size (atHand s input))) output′ lines
-        → Told octets text input output′ (Next (afterUnit s (length (take size (atHand s input))) lines)) (m .next a (take size (atHand s input)))
+        → Told octets text input output′ (Next (heldBehind s (length (take size (atHand s input))) lines)) (m .next a (take size (atHand s input)))
     told-unit {size} {lines} {output′} whole line more rest b g =
         let hand = atHand s input in
         let text′ = m .line a (take size hand) in
         let within = steady .some a hand size whole .1 in
         let many : length (take size hand) ≡ size = length-take-le size hand within in
-        let left : drop size (hand ++ more) ≡ atHand (afterUnit s size lines) input ++ more =
+        let left : drop size (hand ++ more) ≡ atHand (heldBehind s size lines) input ++ more =
         drop-append-le size hand more within ∙ ap (λ (x : List ℕ). x ++ more) (hand-after s input size lines) in
         let same : take size (hand ++ more) ≡ take size hand = take-append-le size hand more within in
         let next : Gives m (m .next a (take size (hand ++ more))) (drop size (hand ++ more)) rest b = rw (same, left) (rw many at g) in

@@ -14,8 +14,7 @@ use Rattle.encoding.specs.Reading.{readOutcome}
 use Rattle.builtin.specs.Tables.{lm}
 use Rattle.lm.specs.ByName.{lmVersion, lmSubtype, readLmOutcome}
 use Rattle.lines.specs.Text.{decimalWithin, decimal, signed as signedText, listed, numberLine, placedLine, acceptedLine, refusedLine}
-use Rattle.machine.specs.Counts.{nothing}
-use Rattle.machine.specs.Machine.{Machine, Gives, unit, end, Laws}
+use Rattle.machine.specs.Machine.{Gives, unit, end}
 use Rattle.frames.specs.Frames.{firstFrame, messageLine}
 use Rattle.frames.proofs.Fronts.{bench-laws}
 use Rattle.pcap.specs.declared.Order.{Order}
@@ -25,11 +24,8 @@ use Rattle.stages.specs.declared.Stage.the-variants.{Opening, Records}
 use Rattle.captures.specs.Captures.{capture}
 use Rattle.captures.specs.Worked.{workedFile, workedText}
 use Rattle.captures.proofs.Steady.{capture-laws}
-use Rattle.stream.specs.Texts.{OneText, Examples, Texts}
-
-one-text : {A : Type 0} (m : Machine A) → Laws m → (first : A) → OneText m first
-one-text m laws first =
-    record { some = laws .text first; one = λ octets text text′ left left′ g h. laws .one first octets text text′ left left′ g h .0 }
+use Rattle.programs.proofs.Whole.{programs-apart}
+use Rattle.stream.specs.Texts.{Examples, Texts}
 
 either-order : (P : Order → Type 0) → P Little → P Big → (order : Order) → P order
 either-order P little big Little = little
@@ -48,4 +44,4 @@ examples =
     }
 
 pub texts : Texts
-texts = record { bench = one-text _ bench-laws nothing; capture = one-text _ capture-laws Opening; examples = examples }
+texts = record { bench = bench-laws; capture = capture-laws; apart = programs-apart; examples = examples }

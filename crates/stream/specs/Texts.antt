@@ -1,20 +1,15 @@
--- The texts of the bench program and of the capture program: any octets have one, and one only; the papers' example and a worked capture
--- file have theirs.
+-- The texts of the bench program and of the capture program: any octets have one, and one only, and an input cut after a whole unit gives
+-- the same lines as the whole (Laws); the papers' example and a worked capture file have theirs.
 use Prim.Native.Nat.{ℕ}
-use mathlib.Core.Path.{_≡_}
 use mathlib.Core.List.{List, [], _∷_}
 use Rattle.machine.specs.Counts.{nothing}
-use Rattle.machine.specs.Machine.{Machine, Gives}
+use Rattle.machine.specs.Machine.{Gives, Laws}
 use Rattle.frames.specs.Frames.{bench}
 use Rattle.pcap.specs.declared.Order.{Order}
 use Rattle.stages.specs.declared.Stage.the-variants.{Opening, Records}
 use Rattle.captures.specs.Captures.{capture}
 use Rattle.captures.specs.Worked.{workedFile, workedText}
-
--- any octets have a text from a state on, and one only
-pub record OneText {A : Type 0} (m : Machine A) (first : A) : Type 0 where
-  pub some : (octets : List ℕ) → (text : List ℕ) × (left : A) × Gives m first octets text left
-  pub one : (octets text text′ : List ℕ) (left left′ : A) → Gives m first octets text left → Gives m first octets text′ left′ → text ≡ text′
+use Rattle.programs.specs.Programs.{Apart}
 
 -- document 01's example of the bench program: its two frames, and its three lines
 abbrev pub exampleFrames : List ℕ
@@ -32,6 +27,7 @@ pub record Examples : Type 0 where
   pub file : (order : Order) → Gives capture Opening (workedFile order) workedText (Records order (record { octets = 139; units = 4 }))
 
 pub record Texts : Type 0 where
-  pub bench : OneText bench nothing
-  pub capture : OneText capture Opening
+  pub bench : Laws bench
+  pub capture : Laws capture
+  pub apart : Apart
   pub examples : Examples

@@ -10,13 +10,13 @@ use Rattle.machine.specs.Machine.{Machine}
 use Rattle.buffers.specs.declared.State.{State}
 use Rattle.buffers.specs.declared.Led.{Led}
 use Rattle.buffers.specs.declared.Led.the-variants.{Next, Stop}
-use Rattle.buffers.specs.Held.{atHand, afterUnit}
+use Rattle.buffers.specs.Held.{atHand, heldBehind}
 use Rattle.buffers.specs.InputOutput.{Wrote, Read}
 
 -- A whole unit is taken from the octets at hand: its own line stands behind those that are held, and the machine goes on behind it.
 pub record Took {A : Type 0} (m : Machine A) (a : A) (unit : List ℕ) (s : State) (output output′ : List ℕ) (r : Led) (a′ : A) : Type 0 where
   pub lines : ℕ
-  pub state : r ≡ Next (afterUnit s (length unit) lines)
+  pub state : r ≡ Next (heldBehind s (length unit) lines)
   pub line : Appended output (s .lines) (m .line a unit) output′ lines
   pub next : a′ ≡ m .next a unit
 

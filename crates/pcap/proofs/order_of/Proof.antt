@@ -1,18 +1,13 @@
 -- `pcap::order_of` meets its contract.
 use borrow.Author.Needs.{needs}
-use borrow.Author.Tests.{eq-eqb, ne-eqb}
 use Rattle.pcap.proofs.order_of.Statement.{statement}
 use Rattle.pcap.proofs.order_of.Tie as tie
 
 returns : tie.Need-returns
-returns c =
-    let mark = c .before .word-at in
-    rw (← mark .ensures .0, eq-eqb (mark .result) 0xa1b2c3d4 (c .if1 .taken))
+returns c = rw (← c .before .is-headed .ensures, c .if1 .taken)
 
 returns-2 : tie.Need-returns-2
-returns-2 c =
-    let mark = c .before .word-at in
-    rw (← mark .ensures .0, ne-eqb (mark .result) 0xa1b2c3d4 (c .if1 .left))
+returns-2 c = rw (← c .before .is-headed .ensures, c .if1 .left)
 
 pub order-of-spec : {M : Type 1} → statement M
 order-of-spec = tie.close (tie.spec (λ c κs. search needs) returns returns-2)

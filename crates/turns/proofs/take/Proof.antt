@@ -5,7 +5,7 @@ use borrow.Author.Needs.{needs}
 use denote.Ref.{now}
 use lib.ListN.{length, take}
 use Rattle.buffers.specs.declared.Led.the-variants.{Next}
-use Rattle.buffers.specs.Held.{atHand, afterUnit}
+use Rattle.buffers.specs.Held.{atHand, heldBehind}
 use Rattle.turns.proofs.Units.{unit-at-hand, length-unit}
 use Rattle.turns.proofs.take.Statement.{statement}
 use Rattle.turns.proofs.take.Tie as tie
@@ -20,7 +20,7 @@ returns c =
     let unit = unit-at-hand s input size (start .pre .0 .1) in
     let put = rw unit at (c .before .before .before .before .before .put-unit .ensures) in
     let lines = c .before .before .before .before .before .put-unit .result in
-    let state : c .after .result ≡ afterUnit s (length (take size (atHand s input))) lines = rw (length-unit s input size held (start .pre .1 .0) (start .pre .0 .1)) (c .after .ensures) in (
+    let state : c .after .result ≡ heldBehind s (length (take size (atHand s input))) lines = rw (length-unit s input size held (start .pre .1 .0) (start .pre .0 .1)) (c .after .ensures) in (
       rw (c .after .ensures) (record { ordered = start .pre .0 .1; within = held .within; room = omega (arith, put .1, start .pre .0 .3) }),
       record { lines = lines; state = ap Next state; line = put .0; next = rw unit at (c .before .next .ensures) },
     )
