@@ -3,7 +3,6 @@ use pcap::Order;
 use pcap::Record;
 use stages::Stage;
 ghost use Prim.Native.Nat.{_+_, _*_, _≤_};
-ghost use mathlib.Core.Path.{_≡_};
 ghost use lib.ListN.{length};
 ghost use Rattle.lines.specs.Text.{Appended};
 ghost use Rattle.stages.specs.Stages.{headerOf};

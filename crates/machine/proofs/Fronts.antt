@@ -9,12 +9,3 @@ wrong-not-part e = let z : _≡_ {A = ℕ} 0 1 = cc in omega arith
 
 pub whole-not-part : (size : ℕ) → Whole size ≡ Part → ⊥
 whole-not-part size e = let z : _≡_ {A = ℕ} 0 1 = cc in omega arith
-
-pub wrong-not-whole : (size : ℕ) → Wrong ≡ Whole size → ⊥
-wrong-not-whole size e = let z : _≡_ {A = ℕ} 0 1 = cc in omega arith
-
-pub part-not-whole : (size : ℕ) → Part ≡ Whole size → ⊥
-part-not-whole size e = let z : _≡_ {A = ℕ} 0 1 = cc in omega arith
-
-pub same-size : (n m : ℕ) → Whole n ≡ Whole m → n ≡ m
-same-size n m e = cc

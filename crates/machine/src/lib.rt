@@ -1,6 +1,6 @@
 // A program that takes one unit after another from its input, such as a frame or a record of a capture: what octets begin with, and how
 // much of the input came before.
-ghost use Prim.Native.Nat.{_+_, min};
+ghost use Prim.Native.Nat.{_+_};
 ghost use mathlib.Core.Path.{_≡_};
 ghost use Rattle.machine.specs.Counts.{counted, nothing, afterUnit};
 

@@ -3,15 +3,14 @@ use Prim.Native.Nat.{ℕ, _+_}
 use mathlib.Core.Path.{_≡_, refl, sym, ap, _∙_}
 use mathlib.Core.List.{List, _++_}
 use lib.ListN.{take}
-use Rattle.lines.specs.Text.{Appended}
 use Rattle.machine.specs.Machine.{Machine, Steady, Within}
 use Rattle.buffers.specs.declared.State.{State}
 use Rattle.buffers.specs.declared.Led.{Led}
 use Rattle.buffers.specs.declared.Led.the-variants.{Next, End, Stop, Lost}
 use Rattle.buffers.specs.Held.{atHand}
 use Rattle.turns.specs.Turns.{Took, Turned, wrote, took, read, stopped, octetsOf, textOf}
-use Rattle.stream.specs.LastLines.{linesOf, lastText}
-use Rattle.stream.specs.Program.{Ran, start, turn, Finished, Answered}
+use Rattle.stream.specs.LastLines.{lastText}
+use Rattle.stream.specs.Program.{Ran, start, turn, Answered}
 use Rattle.stream.proofs.Runs.{gives-text, stops-text}
 
 module _ {A B : Type 0} {m : Machine A} {n : Machine B} {at : A → B} (within : Within m n at) where

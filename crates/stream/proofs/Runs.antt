@@ -1,7 +1,7 @@
 -- The turns of a run give the machine's text for the octets that they read. The invariant: whatever text is given for the octets at hand
 -- and more behind them, the text so far and it are given for all that was read and more.
-use Prim.Native.Nat.{ℕ, zero, suc, _+_, _-_, _≤_, _<_}
-use mathlib.Core.Path.{_≡_, refl, sym, ap, _∙_, subst}
+use Prim.Native.Nat.{ℕ, zero, suc, _+_, _-_}
+use mathlib.Core.Path.{_≡_, sym, ap, _∙_, subst}
 use mathlib.Core.Bool.{true, false}
 use mathlib.Core.List.{List, [], _∷_, _++_, append-assoc, append-nil}
 use native.Mathlib.Nat.{sub-zero, zero-sub, suc-sub-suc}
@@ -16,7 +16,7 @@ use Rattle.buffers.specs.declared.Led.{Led}
 use Rattle.buffers.specs.declared.Led.the-variants.{Next, End, Stop, Lost}
 use Rattle.buffers.specs.Held.{atHand, heldBehind}
 use Rattle.buffers.specs.InputOutput.{afterLines, readTo, afterRead}
-use Rattle.turns.specs.Turns.{Took, Turned, wrote, took, read, stopped, octetsOf, textOf}
+use Rattle.turns.specs.Turns.{Turned, wrote, took, read, stopped, octetsOf, textOf}
 use Rattle.stream.specs.LastLines.{linesOf, lastText}
 use Rattle.stream.specs.Program.{Ran, start, turn, Ended, Stopped}
 

@@ -1,7 +1,6 @@
 -- `programs::put_unit` meets its contract: there is room for 1,024 values, so the lines have at most 22,597 octets.
 use native.Mathlib.Omega.{arith}
 use borrow.Author.Needs.{needs}
-use denote.Ref.{now}
 use Rattle.programs.proofs.put_unit.Statement.{statement}
 use Rattle.programs.proofs.put_unit.Tie as tie
 

@@ -1,5 +1,4 @@
 -- `stages::put_stopped` meets its contract.
-use native.Mathlib.Omega.{arith}
 use borrow.Author.Needs.{needs}
 use Rattle.stages.proofs.put_stopped.Statement.{statement}
 use Rattle.stages.proofs.put_stopped.Tie as tie

@@ -1,10 +1,10 @@
 -- `turns::turn` meets its contract. A whole unit lies within the octets at hand, and behind a part of one there is room.
-use Prim.Native.Nat.{_-_, _<_}
+use Prim.Native.Nat.{_<_}
 use mathlib.Core.Path.{refl, sym, _∙_}
 use native.Mathlib.Omega.{arith}
 use borrow.Author.Needs.{needs}
 use denote.Ref.{now}
-use lib.ListN.{length, take, drop}
+use lib.ListN.{length, take}
 use Rattle.buffers.specs.Held.{atHand}
 use Rattle.buffers.proofs.AtHand.{length-atHand}
 use Rattle.programs.proofs.Whole.{whole-within}
