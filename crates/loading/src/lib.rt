@@ -7,9 +7,8 @@ use row::Row;
 use table::pass::Found;
 ghost use mathlib.Core.Path.{_≡_};
 ghost use mathlib.Core.List.{_++_};
-ghost use Prim.Native.Nat.{_+_, _-_, _≤_};
+ghost use Prim.Native.Nat.{_-_, _≤_};
 ghost use lib.ListN.{length, take, drop, replicate};
-ghost use lib.Seq.{paste};
 ghost use Rattle.table.specs.Verdict.{verdict, checked};
 ghost use Rattle.loading.specs.State.{numbersOf, stateWith, loadedBy};
 
@@ -29,18 +28,6 @@ pub const ROOT: usize = 6148;
 pub const OUTCOME: usize = 6150;
 
 pub const PASSED: u8 = 1;
-
-// Copies octets into a state, from an index on.
-fn copy(state: &mut [u8], from: usize, octets: &[u8])
-    requires { ⌜ from + length (now octets) ≤ length (now state) ⌝ }
-    ensures { λ _. ⌜ now (state .exit) ≡ paste (now (state .entry)) from (now (octets .entry)) (length (now (octets .entry))) ⌝ }
-{
-    let mut i = 0;
-    while i < octets.len() {
-        state[from + i] = octets[i];
-        i += 1;
-    }
-}
 
 // Zeroes the octets of a state from an index up to another.
 fn clear(state: &mut [u8], from: usize, end: usize)
@@ -79,11 +66,11 @@ fn store(state: &mut [u8], table: &[u8], depths: &[u8], rows: usize, root: usize
     requires { ⌜ (length (now state) ≡ 6160) × (length (now table) ≤ 4096) × (length (now depths) ≡ 2048) ⌝ }
     ensures { λ _. ⌜ now (state .exit) ≡ stateWith (now (table .entry)) (now (depths .entry)) rows root ⌝ }
 {
-    copy(state, 0, table);
+    values::copy_octets(state, 0, table);
     clear(state, table.len(), DEPTHS);
-    copy(state, DEPTHS, depths);
+    values::copy_octets(state, DEPTHS, depths);
     let last = numbers(table.len(), rows, root);
-    copy(state, LENGTH, &last);
+    values::copy_octets(state, LENGTH, &last);
 }
 
 // Checks a table and, if it obeys the rules, loads it: it replaces all that the state held. If not, the state stays as it was.

@@ -5,7 +5,7 @@ ghost use mathlib.Core.List.{_++_};
 ghost use Prim.Native.Nat.{_+_, _-_, _*_, _/_, _<_, _≤_, min};
 ghost use lib.IntN.{pos};
 ghost use lib.ListN.{length, getD, set, take, drop, replicate};
-ghost use lib.Seq.{sets};
+ghost use lib.Seq.{sets, paste};
 ghost use Rattle.values.specs.Values.{complement, uncomplement, littleEndian, littleNumber, setValue, valuesIn};
 
 // A value in two's complement.
@@ -174,5 +174,17 @@ pub fn clear_octets(octets: &mut [u8], from: usize)
     while at < octets.len() {
         octets[at] = 0;
         at += 1;
+    }
+}
+
+// Copies octets into a slice, from an index on.
+pub fn copy_octets(octets: &mut [u8], from: usize, copied: &[u8])
+    requires { ⌜ from + length (now copied) ≤ length (now octets) ⌝ }
+    ensures { λ _. ⌜ now (octets .exit) ≡ paste (now (octets .entry)) from (now (copied .entry)) (length (now (copied .entry))) ⌝ }
+{
+    let mut i = 0;
+    while i < copied.len() {
+        octets[from + i] = copied[i];
+        i += 1;
     }
 }

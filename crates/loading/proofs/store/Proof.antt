@@ -16,8 +16,8 @@ returns c =
     let start = copy .before .before .before .before .before in
     let a = start .args in
     stores (now (a .state)) (now (a .table)) (now (a .depths)) (numbers .numbers .result) (a .rows) (a .root) (start .pre .0) (start .pre .1) (start .pre .2) (numbers .numbers .ensures)
-    (copy .copy .last .0) (clear .clear .last .0) (copy2 .copy2 .last .0) (copy3 .copy3 .last .0)
-    (copy .copy .ensures) (clear .clear .ensures) (copy2 .copy2 .ensures) (copy3 .copy3 .ensures)
+    (copy .copy-octets .last .0) (clear .clear .last .0) (copy2 .copy-octets2 .last .0) (copy3 .copy-octets3 .last .0)
+    (copy .copy-octets .ensures) (clear .clear .ensures) (copy2 .copy-octets2 .ensures) (copy3 .copy-octets3 .ensures)
 
 pub store-spec : {M : Type 1} → statement M
 store-spec =
