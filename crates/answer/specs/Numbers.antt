@@ -1,6 +1,7 @@
 -- The refusal numbers of document 01, and of document 02's tickets that have landed, by name, and which case of an answer stands for
 -- those papers' number and values.
 use Prim.Native.Nat.{ℕ}
+use mathlib.Core.Bool.{Bool, true, false}
 use mathlib.Core.Path.{_≡_}
 use Rattle.answer.specs.declared.Answer.{Answer}
 use Rattle.answer.specs.declared.Refusal.{Refusal}
@@ -72,6 +73,16 @@ tooDeep = 26
 abbrev pub noTable : ℕ
 noTable = 27
 
+-- of forwarding (document 02, ticket 7)
+abbrev pub noHops : ℕ
+noHops = 40
+
+abbrev pub idSeen : ℕ
+idSeen = 41
+
+abbrev pub noRecord : ℕ
+noRecord = 42
+
 -- an outcome as document 01 tells it: a refusal's number, 0 where it is accepted; its place; the values, bits and octets counted
 pub record Outcome : Type 0 where
   pub number : ℕ
@@ -91,6 +102,11 @@ refused number place = Refused (refusalAt number place)
 
 abbrev pub accepted : ℕ → ℕ → ℕ → Answer
 accepted values bits octets = Accepted (record { values = values; bits = record { 0 = bits }; octets = record { 0 = octets } })
+
+-- an answer, if a test holds; else a refusal
+abbrev pub answerIf : Bool → Refusal → Answer → Answer
+answerIf true refusal x = x
+answerIf false refusal x = Refused refusal
 
 -- and back: the number and values for each case, as the host is told them
 abbrev pub outcomeOf : Answer → Outcome

@@ -45,7 +45,7 @@ impl Refusal {
     pub const NOT_PADDING: u32 = 9;
     // An LM whose version is not 3.
     pub const WRONG_VERSION: u32 = 10;
-    // An LM whose subtype is not 0, 1 or 2.
+    // An LM whose subtype is not one that the call takes: 0, 1 or 2; in forwarding 2.
     pub const WRONG_SUBTYPE: u32 = 11;
     // A value missing, outside its row, or left over.
     pub const WRONG_VALUE: u32 = 12;
@@ -71,6 +71,15 @@ impl Refusal {
 
     // No table is loaded (document 02, ticket 3).
     pub const NO_TABLE: u32 = 27;
+
+    // Of forwarding (document 02, ticket 7).
+
+    // A hop count of 0.
+    pub const NO_HOPS: u32 = 40;
+    // A message ID that stands in a live record.
+    pub const SEEN: u32 = 41;
+    // No record that isn't live.
+    pub const NO_RECORD: u32 = 42;
 
     // A refusal of a number at a place. No other function makes one.
     pub fn new(number: u32, place: usize) -> Refusal

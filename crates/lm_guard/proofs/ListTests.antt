@@ -13,7 +13,8 @@ use mir.Syntax.{w64}
 use mir.Val.{toZ, ofZ, hbits}
 use mir.Facts.{toZ-ofZ}
 use borrow.Author.Tests.{le-leb, lt-leb, ltb-true, ltb-false, ne-eqb}
-use Rattle.answer.specs.Numbers.{refusalAt, accepted, refused}
+use Rattle.answer.specs.Numbers.{refusalAt, accepted, refused, answerIf}
+use Rattle.answer.proofs.Numbers.{answerIf-accepted}
 use Rattle.answer.specs.declared.Answer.the-variants.{Accepted, Refused}
 use Rattle.answer.specs.declared.Counts.{Counts}
 use Rattle.answer.specs.declared.Refusal.{Refusal}
@@ -22,8 +23,7 @@ use Rattle.encoding.specs.Rows.{asks}
 use Rattle.items.specs.Writing.{encode, writeAnswer, writeOctets}
 use Rattle.builtin.specs.Tables.{lm}
 use Rattle.lm.specs.ByName.{writeIf, writeLmOutcome}
-use Rattle.lm_guard.specs.Tested.{answerIf, lmListTested}
-use Rattle.lm_guard.proofs.Tests.{answerIf-accepted}
+use Rattle.lm_guard.specs.Tested.{lmListTested}
 
 module _ (z : ℤ) (small : mag z < 2 ^ hbits w64) where
   held : toZ w64 (ofZ w64 z) ≡ z

@@ -9,9 +9,9 @@ use native.Mathlib.Omega.{arith}
 use lib.Dec.{leb, eqb}
 use lib.ListN.{length, take, drop}
 use borrow.Author.Tests.{leb-true, le-leb, lt-leb, eq-eqb, ne-eqb}
-use Rattle.answer.specs.Numbers.{refusalAt, accepted, refused}
+use Rattle.answer.specs.Numbers.{refusalAt, accepted, refused, answerIf}
+use Rattle.answer.proofs.Numbers.{answerIf-accepted}
 use Rattle.bits.specs.Bits.{numberOf, unpack}
-use Rattle.answer.specs.declared.Answer.{Answer}
 use Rattle.answer.specs.declared.Answer.the-variants.{Accepted, Refused}
 use Rattle.answer.specs.declared.Counts.{Counts}
 use Rattle.answer.specs.declared.Refusal.{Refusal}
@@ -20,7 +20,7 @@ use Rattle.items.specs.Reading.{ReadOutcome, accept, refuse, decode, readValues
 use Rattle.items.proofs.Messages.{decode-fits}
 use Rattle.builtin.specs.Tables.{lm}
 use Rattle.lm.specs.ByName.{lmVersion, lmSubtype, readIf, readLmOutcome}
-use Rattle.lm_guard.specs.Tested.{answerIf, lmTested}
+use Rattle.lm_guard.specs.Tested.{lmTested}
 
 -- ── each test as the code makes it ──
 
@@ -49,10 +49,6 @@ module _ (s : List ℕ) where
         tested-fine h = rw (le-leb (length s) 65535 most, le-leb 1 (length s) some, eq-eqb _ 3 (sym ev ∙ three), ← es, le-leb subtype 2 h)
 
 -- ── what they leave ──
-
-pub answerIf-accepted : (t : Bool) (refusal : Refusal) (x : Answer) (counts : Counts) → answerIf t refusal x ≡ Accepted counts → (t ≡ true) × (x ≡ Accepted counts)
-answerIf-accepted true refusal x counts e = (refl, e)
-answerIf-accepted false refusal x counts e = (cc, cc)
 
 -- what passed them is at most 65,535 octets and not empty, and has the outcome of the table
 pub record Fine (s : List ℕ) (room : ℕ) : Type 0 where

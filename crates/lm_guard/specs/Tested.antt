@@ -1,21 +1,14 @@
 -- The tests before an LM's items and values, by themselves: what passes them is accepted and counts nothing.
 use Prim.Native.Nat.{ℕ}
-use mathlib.Core.Bool.{Bool, true, false}
 use mathlib.Core.List.{List}
 use lib.Dec.{leb, eqb}
 use lib.IntN.{ℤ, pos}
 use lib.ListN.{length, getD}
 use Rattle.bits.specs.Access.{mostOctets}
-use Rattle.answer.specs.Numbers.{messageEnds, wrongVersion, wrongSubtype, wrongValue, tooLong, refusalAt, accepted}
+use Rattle.answer.specs.Numbers.{messageEnds, wrongVersion, wrongSubtype, wrongValue, tooLong, refusalAt, accepted, answerIf}
 use Rattle.answer.specs.declared.Answer.{Answer}
-use Rattle.answer.specs.declared.Answer.the-variants.{Refused}
-use Rattle.answer.specs.declared.Refusal.{Refusal}
 use Rattle.item.specs.Code.{ofNatural}
 use Rattle.lm.specs.ByName.{lmVersion, lmSubtype}
-
-abbrev pub answerIf : Bool → Refusal → Answer → Answer
-answerIf true refusal x = x
-answerIf false refusal x = Refused refusal
 
 unfoldable pub lmTested : List ℕ → Answer
 lmTested s =
