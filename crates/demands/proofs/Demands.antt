@@ -29,6 +29,10 @@ use Rattle.lm.proofs.Cases.{given}
 use Rattle.userdata.proofs.Placed.{user-data-placed}
 use Rattle.userdata.proofs.Cases.{user-data-cases}
 use Rattle.lm_items.proofs.Same.{same-items}
+use Rattle.forwarded.proofs.Steps.{steps}
+use Rattle.forwarded.proofs.Sequence.{any-sequence}
+use Rattle.forwarded.proofs.OfLm.{of-lm}
+use Rattle.forwarded.proofs.Cases.{forwarding-cases}
 use Rattle.told.proofs.SixNumbers.{six-numbers}
 use Rattle.demands.specs.Demands.{Demands}
 
@@ -54,6 +58,10 @@ demands = record {
   summaries = summaries;
   readingNumbers = reading-numbered;
   plain = same-items;
+  forwarding = steps;
+  forwardedOnce = any-sequence;
+  forwardedLm = of-lm;
+  forwardingCases = forwarding-cases;
   depths = depths;
   ranges = item-ranges;
   width = smallest-width;

@@ -4,10 +4,11 @@
 -- Demand 1 is the contracts of the calls: none has a `requires`, and each says its answer and what every lent slice then holds.
 -- docs/CLAIMS.md lists them, and a test holds the list to the sources.
 -- The theorems here are about the definitions that those contracts cite (readCall, writeCall, valuesAfter, packedAfter,
--- outputAfter, readLmCall, writeLmCall, userDataFound, verdict, loadedBy, throughState) and about the rules of documents 01 and 02, which mention no code.
+-- outputAfter, readLmCall, writeLmCall, userDataFound, verdict, loadedBy, throughState, forwardAnswer, seenAfter, forwardOutput) and
+-- about the rules of documents 01 and 02, which mention no code.
 -- Document 01 is meant as document 02's landed tickets change it: kinds of rows are 1 to 8.
 --
--- Beside it stands what is said of the bench program's text: OneText, in stream's specs/Program.antt.
+-- Beside it stands what is said of the programs' texts: Texts, in stream's specs/Texts.antt.
 use Prim.Native.Nat.{ℕ}
 use mathlib.Core.List.{List}
 use Rattle.bits.specs.Width.{SmallestWidth}
@@ -41,6 +42,10 @@ use Rattle.lm.specs.Cases.{Given}
 use Rattle.userdata.specs.Placed.{UserDataPlaced}
 use Rattle.userdata.specs.Cases.{UserDataCases}
 use Rattle.lm_items.specs.Same.{SameItems}
+use Rattle.forwarded.specs.Steps.{Steps}
+use Rattle.forwarded.specs.Sequence.{AnySequence}
+use Rattle.forwarded.specs.OfLm.{OfLm}
+use Rattle.forwarded.specs.Cases.{ForwardingCases}
 use Rattle.told.specs.Told.{SixNumbers}
 
 pub record Demands : Type 1 where
@@ -105,6 +110,15 @@ pub record Demands : Type 1 where
   -- ── document 02, ticket 4 ──
   -- the sections of an LM, which the reader without a table takes one by one, ask for what the table of LM asks for
   pub plain : SameItems
+  -- ── document 02, ticket 7 ──
+  -- forwarding: which messages go on, what changes in one and in the list of seen records
+  pub forwarding : Steps
+  -- after any sequence of calls over one list: a live record stays, and an ID that was forwarded is refused
+  pub forwardedOnce : AnySequence
+  -- an N-hop LM that is forwarded is the LM with a hop count one lower, and is read by name as before
+  pub forwardedLm : OfLm
+  -- the corners, computed
+  pub forwardingCases : ForwardingCases
   -- ── beside the demands ──
   -- how many rows are visited at most, counted over the definitions, and that it may be so many
   pub visits : (t : List ℕ) → Visits t

@@ -29,7 +29,7 @@ use Rattle.lm.specs.Demand3Lm.{StandsLm, Demand3Lm}
 use Rattle.lm.proofs.FirstOctet.{First, first, subtype-is, version-is}
 
 -- the bits of padded octets
-unpack-padded : (b : List Bool) → unpack (padded b) ≡ b ++ padding (length b)
+pub unpack-padded : (b : List Bool) → unpack (padded b) ≡ b ++ padding (length b)
 unpack-padded b = unpack-pack (size (length b)) (b ++ padding (length b)) (rw (length-append, length-replicate) (omega arith))
 
 -- the tests look at the first three values of the list that stands for the octets

@@ -2,6 +2,7 @@
 // that it was loaded into, on plain numbers and octet slices. A value is eight octets, little-endian, two's complement; octets after the
 // last whole eight of a value slice hold none.
 use loading::STATE;
+use seen::Seen;
 ghost use mathlib.Core.Path.{_≡_};
 ghost use Prim.Native.Nat.{_/_};
 ghost use lib.ListN.{length};
@@ -13,6 +14,7 @@ ghost use Rattle.encoding.specs.Calls.{readCall, writeCall};
 ghost use Rattle.items.specs.Reading.{readAnswer};
 ghost use Rattle.items.specs.Slices.{packedAfter, outputAfter};
 ghost use Rattle.loading.specs.State.{loadedBy, throughState};
+ghost use Rattle.forward.specs.Forward.{forwardAnswer, seenAfter, forwardOutput};
 ghost use Rattle.told.specs.Told.{told};
 
 #[no_mangle]
@@ -67,4 +69,18 @@ pub extern "C" fn teyolxan_read_loaded(
 {
     let answer = loaded::read_packed(state, message, values);
     *numbers = told::told(answer);
+}
+
+#[no_mangle]
+pub extern "C" fn teyolxan_forward(
+    message: &[u8],
+    time: u32,
+    seen: &mut [Seen],
+    output: &mut [u8],
+    numbers: &mut [u64; 6],
+)
+    ensures { λ _. ⌜ (now (numbers .exit) ≡ told (forwardAnswer (now (message .entry)) time (now (seen .entry)) (length (now (output .entry))))) × (now (seen .exit) ≡ seenAfter (now (message .entry)) time (now (seen .entry)) (length (now (output .entry)))) × (now (output .exit) ≡ forwardOutput (now (message .entry)) time (now (seen .entry)) (length (now (output .entry)))) ⌝ }
+{
+    let answer = forwarding::forward(message, time, seen, output);
+    told::tell(answer, numbers);
 }

@@ -1,0 +1,19 @@
+-- `forward::hops_of` meets its contract.
+use Prim.Native.Nat.{ℕ, _<_}
+use native.Mathlib.Omega.{arith}
+use borrow.Author.Needs.{needs}
+use denote.Ref.{now}
+use lib.ListN.{getD}
+use Rattle.forward.proofs.Fields.{hops-are}
+use Rattle.forward.proofs.hops_of.Statement.{statement}
+use Rattle.forward.proofs.hops_of.Tie as tie
+
+returns : tie.Need-returns
+returns c =
+    let known = c .before .before in
+    let m = now (known .before .args .message) in
+    let octets : (j : ℕ) → getD m j 0 < 256 = λ j. omega (arith, known .shared-slice-known .given j) in
+    omega (arith, hops-are m octets (known .before .pre), c .wide .ensures)
+
+pub hops-of-spec : {M : Type 1} → statement M
+hops-of-spec = tie.close (tie.spec (λ c. search needs) (λ c κs. search needs) returns)

@@ -1,0 +1,4 @@
+pub mod Steps
+pub mod Sequence
+pub mod OfLm
+pub mod Cases
