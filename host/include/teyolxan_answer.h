@@ -15,7 +15,7 @@ enum {
     TEYOLXAN_PLACE,  /* the refusal's place */
     TEYOLXAN_VALUES, /* how many values were read */
     TEYOLXAN_BITS,   /* how many bits the root took */
-    TEYOLXAN_OCTETS, /* how many octets were written */
+    TEYOLXAN_OCTETS, /* how many octets were written, or forwarded */
     TEYOLXAN_KEPT,   /* 0 */
     TEYOLXAN_COUNT   /* how many numbers these are: 6 */
 };
@@ -42,7 +42,10 @@ enum {
     TEYOLXAN_REFUSED_WRONG_REFERENCE = 24,
     TEYOLXAN_REFUSED_ONLY_RESERVED = 25,
     TEYOLXAN_REFUSED_TOO_DEEP = 26,
-    TEYOLXAN_REFUSED_NO_TABLE = 27
+    TEYOLXAN_REFUSED_NO_TABLE = 27,
+    TEYOLXAN_REFUSED_NO_HOPS = 40,
+    TEYOLXAN_REFUSED_SEEN = 41,
+    TEYOLXAN_REFUSED_NO_RECORD = 42
 };
 
 /* The name of 6 before it told lengths below a least, too. */
@@ -67,13 +70,13 @@ static inline const char *teyolxan_meaning(uint64_t number)
     case TEYOLXAN_REFUSED_BAD_VARIABLE:
         return "a variable number starts with 1111";
     case TEYOLXAN_REFUSED_NO_ROOM:
-        return "there is no room for the next value, or for the next bits";
+        return "there is no room for the next value, for the next bits, or for the message";
     case TEYOLXAN_REFUSED_NOT_PADDING:
         return "the padding is not zero, or octets are left";
     case TEYOLXAN_REFUSED_WRONG_VERSION:
         return "the version of the LM is not 3";
     case TEYOLXAN_REFUSED_WRONG_SUBTYPE:
-        return "the subtype of the LM is not 0, 1 or 2";
+        return "the subtype of the LM is not one that the call takes";
     case TEYOLXAN_REFUSED_WRONG_VALUE:
         return "a value is missing, outside its row, or left over";
     case TEYOLXAN_REFUSED_TOO_LONG:
@@ -94,6 +97,12 @@ static inline const char *teyolxan_meaning(uint64_t number)
         return "the row is deeper than 32";
     case TEYOLXAN_REFUSED_NO_TABLE:
         return "no table is loaded";
+    case TEYOLXAN_REFUSED_NO_HOPS:
+        return "the hop count is 0";
+    case TEYOLXAN_REFUSED_SEEN:
+        return "the message ID stands in a live record";
+    case TEYOLXAN_REFUSED_NO_RECORD:
+        return "every record is live";
     default:
         return "no refusal has this number";
     }

@@ -1,11 +1,11 @@
-//! What a host calls: check, read and write under a lent table, and read under one that was loaded
-//! before. Any octets may be lent; no call panics, allocates, or holds anything back. `Refusal` has a
-//! name for each refusal's number, and what it means in a sentence. docs/HOST.md has examples.
+//! What a host calls: check, read and write under a lent table, read under one that was loaded before, and
+//! forward a message. Any octets may be lent; no call panics, allocates, or holds anything back. `Refusal`
+//! has a name for each refusal's number, and what it means in a sentence. docs/HOST.md has examples.
 
 use crate::codec::{StateOctets, FRESH};
 use crate::linked::{self, answer, tables};
 
-pub use crate::codec::{Answer, Refusal, STATE_SIZE};
+pub use crate::codec::{Answer, Refusal, Seen, STATE_SIZE};
 
 /// Whether the table obeys the rules of document 01; if not, its first row that breaks one.
 #[inline]
@@ -39,6 +39,15 @@ pub fn read_octets(table: &[u8], message: &[u8], values: &mut [u8]) -> Answer {
 #[inline]
 pub fn write_octets(table: &[u8], values: &[u8], output: &mut [u8]) -> Answer {
     answer(|numbers| tables::write(table, values, output, numbers))
+}
+
+/// Forwards an N-hop message into the output, with its hop count one lower, at a time in milliseconds. The
+/// list remembers what was forwarded; it is the caller's, and begins as `Seen::default()` in each place.
+/// Afterwards the output is the message that goes on, then zeros; after a refusal it is all zeros, and the
+/// list is as it was.
+#[inline]
+pub fn forward(message: &[u8], now: u32, seen: &mut [Seen], output: &mut [u8]) -> Answer {
+    answer(|numbers| tables::forward(message, now, seen, output, numbers))
 }
 
 /// A table that is checked once, for any number of messages: its octets, and what the check found.

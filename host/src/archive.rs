@@ -3,11 +3,12 @@
 
 use crate::by_name::{self, Name};
 use crate::codec::{
-    read_as_numbers, values_of, Answer, Bits, Call, Codec, Element, Part, Refusal, StateOctets,
-    Taken,
+    read_as_numbers, values_of, Answer, Bits, Call, Codec, Element, Part, Refusal, Seen,
+    StateOctets, Taken,
 };
 use crate::guarded::{InPlace, Memory};
-use crate::linked::{self, lm, probe, tables, told, Numbers};
+use crate::linked::tables::{self, SeenWords};
+use crate::linked::{self, lm, probe, told, Numbers};
 
 /// The linked libraries, and where the slices of their calls stand.
 pub struct Archive<M = InPlace>(pub M);
@@ -16,7 +17,7 @@ pub struct Archive<M = InPlace>(pub M);
 pub const ARCHIVE: Archive = Archive(InPlace);
 
 /// The calls that the libraries offer.
-pub const CALLS: [Call; 10] = [
+pub const CALLS: [Call; 11] = [
     Call::Check,
     Call::Read,
     Call::Write,
@@ -27,6 +28,7 @@ pub const CALLS: [Call; 10] = [
     Call::Take,
     Call::Load,
     Call::ReadLoaded,
+    Call::Forward,
 ];
 
 /// The answer that these numbers tell, after a look that they tell nothing else.
@@ -243,6 +245,48 @@ impl<M: Memory> Codec for Archive<M> {
             answer
         })
     }
+
+    /// All twelve octets of every record stay, but for the one that is stored.
+    fn forward(&self, message: &[u8], now: u32, seen: &mut [Seen], output: &mut [u8]) -> Answer {
+        let in_memory = |(at, record): (usize, &Seen)| words(at, record);
+        let before: Vec<SeenWords> = seen.iter().enumerate().map(in_memory).collect();
+        let mut after = before.clone();
+        let answer = exactly(self.0.show(message, |message| {
+            self.0.lend(&mut after, |seen| {
+                self.0.lend(output, |output| {
+                    self.numbers(|numbers| {
+                        tables::forward_words(message, now, seen, output, numbers)
+                    })
+                })
+            })
+        }));
+        let pairs = before.iter().zip(&after);
+        let changed = pairs.filter(|(before, after)| before != after).count();
+        let stored = usize::from(answer.refusal().is_none());
+        assert_eq!(changed, stored, "records that changed");
+        for (place, words) in seen.iter_mut().zip(after) {
+            *place = record(words);
+        }
+        answer
+    }
+}
+
+/// A record as it stands in memory. The three octets behind it hold anything: they differ from record to
+/// record.
+fn words(at: usize, record: &Seen) -> SeenWords {
+    let any = (at as u32 ^ record.id ^ record.time.rotate_left(7)).wrapping_mul(0x9E37_79B9);
+    let used = u32::from(record.used);
+    [record.id, record.time, any & !0xFF | used]
+}
+
+/// The record that stands so in memory.
+fn record([id, time, last]: SeenWords) -> Seen {
+    let used = match last.to_le_bytes()[0] {
+        0 => false,
+        1 => true,
+        other => panic!("{other} is no bool"),
+    };
+    Seen { id, time, used }
 }
 
 /// How the plain LM reader is lent the value slice.

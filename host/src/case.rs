@@ -1,6 +1,6 @@
 //! One call with its input, and the outcome of making it on a codec.
 
-use crate::codec::{Answer, Call, Codec, Element, Part, Refusal, StateOctets, Taken};
+use crate::codec::{Answer, Call, Codec, Element, Part, Refusal, Seen, StateOctets, Taken};
 
 /// A call with its input.
 #[derive(Clone, Debug)]
@@ -49,6 +49,20 @@ pub enum Case {
     Capture {
         file: Vec<u8>,
     },
+    /// Messages that are forwarded over one list, one after another.
+    Forward {
+        seen: Vec<Seen>,
+        steps: Vec<Hop>,
+    },
+}
+
+/// A message that is forwarded.
+#[derive(Clone, Debug)]
+pub struct Hop {
+    pub message: Vec<u8>,
+    pub now: u32,
+    /// The octets of the lent output.
+    pub output: usize,
 }
 
 /// What is done with a state.
@@ -84,6 +98,17 @@ pub enum Outcome {
     /// The whole state afterwards.
     Stored(Vec<u8>),
     Steps(Vec<Told>),
+    Forwarded(Vec<Forwarded>),
+}
+
+/// What a forwarding gave.
+#[derive(Clone, Debug, PartialEq, Eq)]
+pub struct Forwarded {
+    pub answer: Answer,
+    /// The whole output afterwards.
+    pub output: Vec<u8>,
+    /// The whole list afterwards.
+    pub seen: Vec<Seen>,
 }
 
 /// What a step with a state gave.
@@ -119,6 +144,7 @@ impl Case {
             Case::Load { .. } => Call::Load,
             Case::ReadLoaded { .. } => Call::ReadLoaded,
             Case::Capture { .. } => Call::Capture,
+            Case::Forward { .. } => Call::Forward,
         }
     }
 
@@ -167,6 +193,24 @@ impl Case {
                 Outcome::Steps(steps.iter().map(tell).collect())
             }
             Case::Capture { file } => Outcome::Printed(codec.capture(file)),
+            Case::Forward { seen, steps } => {
+                let mut seen = seen.clone();
+                let tell = |hop: &Hop| hop.run(codec, &mut seen);
+                Outcome::Forwarded(steps.iter().map(tell).collect())
+            }
+        }
+    }
+}
+
+impl Hop {
+    /// Forwards the message, which changes the list.
+    pub fn run(&self, codec: &dyn Codec, seen: &mut [Seen]) -> Forwarded {
+        let mut output = vec![BEFORE; self.output];
+        let answer = codec.forward(&self.message, self.now, seen, &mut output);
+        Forwarded {
+            answer,
+            output,
+            seen: seen.to_vec(),
         }
     }
 }
@@ -200,6 +244,7 @@ impl Outcome {
             Outcome::Checked(answer) | Outcome::Filled(answer, _) => vec![answer.refusal()],
             Outcome::UserData(part) => vec![part.err()],
             Outcome::Steps(steps) => steps.iter().map(|told| told.answer.refusal()).collect(),
+            Outcome::Forwarded(steps) => steps.iter().map(|step| step.answer.refusal()).collect(),
             Outcome::Element(_) | Outcome::Taken(_) => Vec::new(),
             Outcome::Printed(_) | Outcome::Stored(_) => Vec::new(),
         }

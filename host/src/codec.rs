@@ -6,13 +6,15 @@
 
 use std::error::Error;
 use std::fmt;
+use std::mem::offset_of;
 
-/// A refusal: its number in document 01, as tickets 1 and 3 of document 02 change them, and its place.
+/// A refusal: its number in document 01, as tickets 1, 3 and 7 of document 02 change them, and its place.
 #[derive(Clone, Copy, Debug, PartialEq, Eq)]
 pub struct Refusal {
     pub number: u32,
     /// In octets of the table for 20 to 26: the first octet of the row at fault. Else in bits of
-    /// the message on reading, and an index into the list on writing. 0 for 1, 13 and 27.
+    /// the message on reading and forwarding, and an index into the list on writing. 0 for 1, 13, 27
+    /// and 42.
     pub place: u64,
 }
 
@@ -56,10 +58,11 @@ refusals! {
     /// For an opened message: more than 32 bits are asked for.
     OUTSIDE_LIMITS = 6, "a count or length is outside its limits";
     BAD_VARIABLE = 7, "a variable number starts with 1111";
-    NO_ROOM = 8, "there is no room for the next value, or for the next bits";
+    NO_ROOM = 8, "there is no room for the next value, for the next bits, or for the message";
     NOT_PADDING = 9, "the padding is not zero, or octets are left";
     WRONG_VERSION = 10, "the version of the LM is not 3";
-    WRONG_SUBTYPE = 11, "the subtype of the LM is not 0, 1 or 2";
+    /// In forwarding: the subtype is not 2.
+    WRONG_SUBTYPE = 11, "the subtype of the LM is not one that the call takes";
     WRONG_VALUE = 12, "a value is missing, outside its row, or left over";
     TOO_LONG = 13, "the message has more than 65,535 octets";
     ROW_PAST_END = 20, "fewer than 4 octets are left for the row, or its length runs past the table's end";
@@ -70,6 +73,9 @@ refusals! {
     ONLY_RESERVED = 25, "every branch of the choice is reserved";
     TOO_DEEP = 26, "the row is deeper than 32";
     NO_TABLE = 27, "no table is loaded";
+    NO_HOPS = 40, "the hop count is 0";
+    SEEN = 41, "the message ID stands in a live record";
+    NO_RECORD = 42, "every record is live";
 }
 
 impl Refusal {
@@ -86,6 +92,11 @@ impl Refusal {
     pub const fn is_of_table(number: u32) -> bool {
         number == Refusal::TABLE_SIZE
             || (number >= Refusal::ROW_PAST_END && number <= Refusal::TOO_DEEP)
+    }
+
+    /// Whether the number is an answer of forwarding alone.
+    pub const fn is_of_forwarding(number: u32) -> bool {
+        number >= Refusal::NO_HOPS && number <= Refusal::NO_RECORD
     }
 
     pub fn new(number: u32, place: usize) -> Refusal {
@@ -106,7 +117,8 @@ impl fmt::Display for Refusal {
 
 impl Error for Refusal {}
 
-/// The answer of a check, a load, a reading or a writing. A count that the call does not tell is 0.
+/// The answer of a check, a load, a reading, a writing or a forwarding. A count that the call does not
+/// tell is 0.
 #[derive(Clone, Copy, Debug, PartialEq, Eq)]
 pub enum Answer {
     Accepted {
@@ -114,7 +126,7 @@ pub enum Answer {
         values: u64,
         /// Read: the bits that the root took.
         bits: u64,
-        /// Written: the count of octets.
+        /// Written or forwarded: the count of octets.
         octets: u64,
     },
     /// As in `Refusal`.
@@ -155,6 +167,29 @@ pub type StateOctets = [u8; STATE_SIZE];
 
 /// A state that no table was loaded into.
 pub const FRESH: StateOctets = [0; STATE_SIZE];
+
+/// A record of a message that was forwarded. A list of them is what the forwarding step remembers; zeros
+/// are a record that is not in use.
+///
+/// Its octets are id, time, used, and three that nobody looks at.
+#[derive(Clone, Copy, Debug, Default, PartialEq, Eq)]
+#[repr(C)]
+pub struct Seen {
+    /// The message ID, 22 bits. One above them is never met.
+    pub id: u32,
+    /// When it was forwarded, in milliseconds.
+    pub time: u32,
+    /// Whether the record is in use: an octet 0 or 1, as any `bool`.
+    pub used: bool,
+}
+
+/// As the library and C have it.
+const _: () = {
+    assert!(size_of::<Seen>() == 12 && align_of::<Seen>() == 4);
+    assert!(offset_of!(Seen, id) == 0);
+    assert!(offset_of!(Seen, time) == 4);
+    assert!(offset_of!(Seen, used) == 8);
+};
 
 /// The part of an LM that is its user data, in octets.
 #[derive(Clone, Copy, Debug, PartialEq, Eq)]
@@ -200,10 +235,11 @@ pub enum Call {
     Load,
     ReadLoaded,
     Capture,
+    Forward,
 }
 
 impl Call {
-    pub const ALL: [Call; 12] = [
+    pub const ALL: [Call; 13] = [
         Call::Check,
         Call::Read,
         Call::Write,
@@ -216,6 +252,7 @@ impl Call {
         Call::Load,
         Call::ReadLoaded,
         Call::Capture,
+        Call::Forward,
     ];
 }
 
@@ -281,6 +318,17 @@ pub trait Codec {
     /// What the capture program prints for this file.
     fn capture(&self, _file: &[u8]) -> String {
         not_offered(Call::Capture)
+    }
+
+    /// Forwards the message into the output, at this time; `seen` is the list of what was forwarded.
+    fn forward(
+        &self,
+        _message: &[u8],
+        _now: u32,
+        _seen: &mut [Seen],
+        _output: &mut [u8],
+    ) -> Answer {
+        not_offered(Call::Forward)
     }
 }
 

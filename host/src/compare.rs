@@ -6,9 +6,9 @@ use std::fmt;
 use crate::case::{Case, Outcome, Step, Table};
 use crate::codec::{value_octets, Call, Codec, Refusal, StateOctets, FRESH};
 use crate::random::{
-    allowed_list, capture_file, forged_state, frames, large_list, large_lm, large_message, lm_list,
-    lm_message, message_through, nearly_passing_table, passing_table, some_budget, some_message,
-    some_output, some_room, wrong_list, Drawn, Random,
+    allowed_list, capture_file, forged_state, forwarding, frames, large_list, large_lm,
+    large_message, lm_list, lm_message, message_through, nearly_passing_table, passing_table,
+    some_budget, some_message, some_output, some_room, wrong_list, Drawn, Random,
 };
 use crate::reference::{lm_table, root_of};
 use crate::vectors::{case_text, outcome_text};
@@ -19,17 +19,35 @@ pub struct Stats {
     pub cases: u64,
     /// By call, in the order of `Call::ALL`.
     pub calls: [u64; Call::ALL.len()],
-    /// Checks, loads, readings, writings and user data calls that were accepted.
+    /// Checks, loads, readings, writings, forwardings and user data calls that were accepted.
     pub accepted: u64,
-    /// The same, refused, by number; 0 at what is no refusal's number.
-    pub refused: [u64; Refusal::HIGHEST as usize + 1],
+    /// The same, refused, in the order of `Refusal::ALL`.
+    pub refused: [u64; Refusal::ALL.len()],
 }
 
 impl Stats {
     /// How often each refusal came up, in the order of their numbers.
     pub fn refusals(&self) -> impl Iterator<Item = (u32, u64)> + '_ {
-        let count = |&number: &u32| (number, self.refused[number as usize]);
-        Refusal::ALL.iter().map(count)
+        Refusal::ALL.iter().copied().zip(self.refused)
+    }
+
+    /// How often this refusal came up.
+    pub fn refused_by(&self, number: u32) -> u64 {
+        let mut refusals = self.refusals();
+        let found = refusals.find(|&(other, _)| other == number);
+        found.map_or(0, |(_, count)| count)
+    }
+
+    /// Counts a call that was accepted or refused.
+    pub fn count(&mut self, refusal: Option<Refusal>) {
+        match refusal {
+            Some(refusal) => {
+                if let Ok(at) = Refusal::ALL.binary_search(&refusal.number) {
+                    self.refused[at] += 1;
+                }
+            }
+            None => self.accepted += 1,
+        }
     }
 
     /// Fails where a refusal came up too rarely: one that tells what is wrong with a table in less
@@ -134,14 +152,7 @@ pub fn compare_one(
     stats.cases += 1;
     stats.calls[case.call() as usize] += 1;
     for verdict in outcomes.0.verdicts() {
-        match verdict {
-            Some(refusal) => {
-                if let Some(count) = stats.refused.get_mut(refusal.number as usize) {
-                    *count += 1;
-                }
-            }
-            None => stats.accepted += 1,
-        }
+        stats.count(verdict);
     }
     Ok(())
 }
@@ -185,8 +196,12 @@ fn weight(call: Call) -> u64 {
         Call::Load => 1,
         Call::ReadLoaded => 9,
         Call::Capture => 3,
+        Call::Forward => 4,
     }
 }
+
+/// The most messages that one case forwards.
+const HOPS: usize = 16;
 
 /// A case of one of these calls; there is at least one.
 pub fn draw(random: &mut Random, calls: &[Call]) -> Case {
@@ -252,6 +267,10 @@ pub fn draw(random: &mut Random, calls: &[Call]) -> Case {
         Call::Capture => Case::Capture {
             file: capture_file(random),
         },
+        Call::Forward => {
+            let (seen, steps) = forwarding(random, HOPS);
+            Case::Forward { seen, steps }
+        }
     }
 }
 

@@ -12,8 +12,9 @@ use std::fs::File;
 use std::os::fd::{AsRawFd, FromRawFd};
 use std::{ptr, slice};
 
-use crate::codec::STATE_SIZE;
-use crate::linked::{self, lm, tables};
+use crate::codec::{Seen, STATE_SIZE};
+use crate::linked::tables::{self, SeenWords};
+use crate::linked::{self, lm};
 use crate::random::Random;
 
 /// Where the slices of a call stand while it runs.
@@ -38,6 +39,8 @@ unsafe impl Element for u8 {}
 unsafe impl Element for i64 {}
 // SAFETY: whole numbers.
 unsafe impl Element for u64 {}
+// SAFETY: whole numbers.
+unsafe impl Element for SeenWords {}
 
 /// Slices stay where they are.
 pub struct InPlace;
@@ -60,7 +63,8 @@ pub struct Guarded {
     random: RefCell<Random>,
 }
 
-/// The most slices of one call: a table or state, a message or list, what is written, and the numbers.
+/// The most slices of one call: a table, state or list of records, a message or list of values, what is
+/// written, and the numbers.
 const SLICES: usize = 4;
 
 /// What the octets beside a slice that is written hold, and how many of them are looked at where
@@ -266,89 +270,101 @@ pub fn stack_of<C: FnOnce()>(call: C) -> usize {
     STACK - untouched.count()
 }
 
-/// What a guard has to stop.
+/// A slice that a call is lent.
 #[derive(Clone, Copy, Debug, PartialEq, Eq)]
-pub enum Trespass {
-    ReadBefore,
-    ReadAfter,
-    WriteBefore,
-    WriteAfter,
-    WriteShown,
-    LoadBefore,
-    LoadAfter,
-    LoadShown,
-    PlainReadBefore,
-    PlainReadAfter,
-    PlainWriteBefore,
-    PlainWriteAfter,
-    PlainWriteShown,
+pub enum Lent {
+    /// A message that is read under a table, or without one, or forwarded.
+    Read,
+    PlainRead,
+    ForwardRead,
+    /// What is written: a message, values, a message that goes on.
+    Write,
+    PlainWrite,
+    ForwardWrite,
+    /// A state that a table is loaded into, and a list that an ID is stored in.
+    Load,
+    Store,
 }
 
-impl Trespass {
-    pub const ALL: [Trespass; 13] = [
-        Trespass::ReadBefore,
-        Trespass::ReadAfter,
-        Trespass::WriteBefore,
-        Trespass::WriteAfter,
-        Trespass::WriteShown,
-        Trespass::LoadBefore,
-        Trespass::LoadAfter,
-        Trespass::LoadShown,
-        Trespass::PlainReadBefore,
-        Trespass::PlainReadAfter,
-        Trespass::PlainWriteBefore,
-        Trespass::PlainWriteAfter,
-        Trespass::PlainWriteShown,
-    ];
+/// Where a slice reaches outside what is lent: before or after it; or it may only be read.
+#[derive(Clone, Copy, Debug, PartialEq, Eq)]
+pub enum Side {
+    Before,
+    After,
+    Shown,
+}
 
-    /// Lets the library touch one octet that is not lent to it, or write to one that is only shown.
-    /// Where this comes back, nothing guards. A state that a table is loaded into is written whole.
+/// What a guard has to stop.
+#[derive(Clone, Copy, Debug, PartialEq, Eq)]
+pub struct Trespass(pub Lent, pub Side);
+
+impl Trespass {
+    /// All that there are: what is only read may be shown.
+    pub fn all() -> Vec<Trespass> {
+        let read = [Lent::Read, Lent::PlainRead, Lent::ForwardRead];
+        let written = [Lent::Write, Lent::PlainWrite, Lent::ForwardWrite];
+        let changed = [Lent::Load, Lent::Store];
+        let outside = [read.as_slice(), &written, &changed].concat().into_iter();
+        let outside = outside.flat_map(|lent| [Side::Before, Side::After].map(|side| (lent, side)));
+        let shown = [written.as_slice(), &changed].concat().into_iter();
+        let all = outside.chain(shown.map(|lent| (lent, Side::Shown)));
+        all.map(|(lent, side)| Trespass(lent, side)).collect()
+    }
+
+    /// Lets the library touch what is not lent to it, or write to what is only shown: one octet, or the
+    /// four of a number in a list. Where this comes back, nothing guards. A state that a table is loaded
+    /// into is written whole.
     pub fn commit(self) {
-        // Octets, at most 3: the first octet of a message is their count. The message is an LM, too.
-        const TABLE: [u8; 6] = [6, 0, 7, 0, 3, 0];
-        const MESSAGE: [u8; 4] = [3, 0, 32, 0];
-        const LIST: [i64; 4] = [3, 0, 32, 0];
-        let size = match self {
-            Trespass::LoadBefore | Trespass::LoadAfter | Trespass::LoadShown => STATE_SIZE,
-            _ => MESSAGE.len(),
+        let Trespass(lent, side) = self;
+        let (size, outside) = match lent {
+            Lent::Load => (STATE_SIZE, 1),
+            Lent::Store => (size_of::<Seen>(), 4),
+            _ => (LM.len(), 1),
         };
         let arena = Arena::new();
-        let (before, after) = (arena.writable.wrapping_sub(1), SIZE - size + 1);
-        // SAFETY: all of the message but its last octet fits there.
-        let after = unsafe {
-            let after = arena.writable.add(after);
-            ptr::copy_nonoverlapping(MESSAGE.as_ptr(), after, MESSAGE.len() - 1);
-            after
+        let start = match side {
+            Side::Before => arena.writable.wrapping_sub(outside),
+            Side::After => arena.writable.wrapping_add(SIZE - size + outside),
+            Side::Shown => arena.shown.cast_mut(),
         };
-        let start = match self {
-            Trespass::ReadBefore | Trespass::WriteBefore | Trespass::LoadBefore => before,
-            Trespass::ReadAfter | Trespass::WriteAfter | Trespass::LoadAfter => after,
-            Trespass::PlainReadBefore | Trespass::PlainWriteBefore => before,
-            Trespass::PlainReadAfter | Trespass::PlainWriteAfter => after,
-            Trespass::WriteShown | Trespass::LoadShown | Trespass::PlainWriteShown => {
-                arena.shown.cast_mut()
-            }
-        };
-        // SAFETY: this is wrong, and the process has to die for it before any harm is done: one
-        // octet of the slice lies in a guard, or all of them may only be read.
-        let slice = unsafe { slice::from_raw_parts_mut(start, size) };
+        if let (Side::After, Lent::Read | Lent::PlainRead | Lent::ForwardRead) = (side, lent) {
+            let message = if lent == Lent::ForwardRead { N_HOP } else { LM };
+            // SAFETY: all of the message but its last octet fits there.
+            unsafe { ptr::copy_nonoverlapping(message.as_ptr(), start, size - outside) };
+        }
+        // SAFETY: this is wrong, and the process has to die for it before any harm is done: a part of
+        // the slice lies in a guard, or all of it may only be read.
+        lent.touch(unsafe { slice::from_raw_parts_mut(start, size) });
+    }
+}
+
+/// Octets, at most 3: the first octet of a message is their count. The message is an LM, too.
+const TABLE: [u8; 6] = [6, 0, 7, 0, 3, 0];
+const LM: [u8; 4] = [3, 0, 32, 0];
+const LIST: [i64; 4] = [3, 0, 32, 0];
+/// A message that goes on.
+const N_HOP: [u8; 4] = [0x23, 0, 0, 7];
+
+impl Lent {
+    /// Makes the call that touches the slice.
+    fn touch(self, slice: &mut [u8]) {
         let mut numbers = linked::BEFORE;
+        let mut seen = [Seen::default()];
         match self {
-            Trespass::ReadBefore | Trespass::ReadAfter => {
-                tables::read(&TABLE, slice, &mut [0; 32], &mut numbers);
-            }
-            Trespass::WriteBefore | Trespass::WriteAfter | Trespass::WriteShown => {
-                tables::write(&TABLE, linked::octets(&LIST), slice, &mut numbers);
-            }
-            Trespass::LoadBefore | Trespass::LoadAfter | Trespass::LoadShown => {
+            Lent::Read => tables::read(&TABLE, slice, &mut [0; 32], &mut numbers),
+            Lent::PlainRead => lm::read(slice, &mut [0; 64], &mut numbers),
+            Lent::ForwardRead => tables::forward(slice, 0, &mut seen, &mut [0; 4], &mut numbers),
+            Lent::Write => tables::write(&TABLE, linked::octets(&LIST), slice, &mut numbers),
+            Lent::PlainWrite => lm::read(&LM, slice, &mut numbers),
+            Lent::ForwardWrite => tables::forward(&N_HOP, 0, &mut seen, slice, &mut numbers),
+            Lent::Load => {
                 let state = slice.try_into().expect("the size of a state");
                 tables::load(state, &TABLE, &mut numbers);
             }
-            Trespass::PlainReadBefore | Trespass::PlainReadAfter => {
-                lm::read(slice, &mut [0; 64], &mut numbers);
-            }
-            Trespass::PlainWriteBefore | Trespass::PlainWriteAfter | Trespass::PlainWriteShown => {
-                lm::read(&MESSAGE, slice, &mut numbers)
+            Lent::Store => {
+                // SAFETY: as wrong as what `commit` does.
+                let list = unsafe { slice::from_raw_parts_mut(slice.as_mut_ptr().cast(), 1) };
+                tables::forward(&N_HOP, 0, list, &mut [0; 4], &mut numbers);
             }
         }
     }

@@ -3,7 +3,7 @@
 //! A slice is given as a pointer to its first element and the count of its elements, the six
 //! numbers of the answer and a state as one pointer each. The calls keep no pointer, hold no state of
 //! their own, and are proved to write to the lent slices, a state that is loaded and the numbers alone,
-//! whatever the octets are.
+//! whatever the octets are; only the `used` of a record is 0 or 1, as any `bool`.
 
 #[cfg(not(target_endian = "little"))]
 compile_error!("the libraries take values as eight octets, little-endian, and lists are lent as they stand in memory");
@@ -63,8 +63,11 @@ pub fn octets_mut(values: &mut [i64]) -> &mut [u8] {
 /// The calls under tables, from libteyolxan.a.
 #[cfg(tables)]
 pub mod tables {
+    #[cfg(feature = "probe")]
+    use std::slice;
+
     use super::Numbers;
-    use crate::codec::StateOctets;
+    use crate::codec::{Seen, StateOctets};
 
     extern "C" {
         fn teyolxan_check(table: *const u8, table_length: usize, numbers: *mut Numbers);
@@ -102,6 +105,17 @@ pub mod tables {
             message_length: usize,
             values: *mut u8,
             values_length: usize,
+            numbers: *mut Numbers,
+        );
+
+        fn teyolxan_forward(
+            message: *const u8,
+            message_length: usize,
+            now: u32,
+            seen: *mut Seen,
+            seen_length: usize,
+            output: *mut u8,
+            output_length: usize,
             numbers: *mut Numbers,
         );
     }
@@ -172,6 +186,52 @@ pub mod tables {
                 numbers,
             )
         };
+    }
+
+    #[inline]
+    pub fn forward(
+        message: &[u8],
+        now: u32,
+        seen: &mut [Seen],
+        output: &mut [u8],
+        numbers: &mut Numbers,
+    ) {
+        // SAFETY: pointers and lengths are those of live slices, and each `used` is a bool; only `seen`,
+        // `output` and the numbers, which are lent to us alone, are written.
+        unsafe {
+            teyolxan_forward(
+                message.as_ptr(),
+                message.len(),
+                now,
+                seen.as_mut_ptr(),
+                seen.len(),
+                output.as_mut_ptr(),
+                output.len(),
+                numbers,
+            )
+        };
+    }
+
+    /// A record as it stands in memory, with the three octets behind it: ID, time, and in use or not in
+    /// the lowest octet.
+    #[cfg(feature = "probe")]
+    pub type SeenWords = [u32; 3];
+
+    /// The same with records as they stand in memory, for tests that look at all octets of a list.
+    #[cfg(feature = "probe")]
+    pub fn forward_words(
+        message: &[u8],
+        now: u32,
+        seen: &mut [SeenWords],
+        output: &mut [u8],
+        numbers: &mut Numbers,
+    ) {
+        let used = |record: &SeenWords| record[2].to_le_bytes()[0];
+        assert!(seen.iter().all(|record| used(record) <= 1), "no list");
+        // SAFETY: the same memory, lent for as long; a record has the size and the alignment of its words,
+        // and each `used` is a bool.
+        let seen = unsafe { slice::from_raw_parts_mut(seen.as_mut_ptr().cast(), seen.len()) };
+        forward(message, now, seen, output, numbers);
     }
 }
 

@@ -254,11 +254,80 @@ faults! {
     OffsetsFromRecords,
     /// Capture program: the place of a stop is that after the record's header.
     OffsetBehindHeader,
+    /// Forwarding: a message of 65,536 octets goes on.
+    ForwardedOneLonger,
+    /// Forwarding: the version is tested before too long a message (10 for 13).
+    VersionBeforeLength,
+    /// Forwarding: the version is tested before the message's end (10 for 2).
+    VersionBeforeEnd,
+    /// Forwarding: another version is told at the message's first bit.
+    VersionAtStart,
+    /// Forwarding: the subtype is tested before the version (11 for 10).
+    SubtypeBeforeVersion,
+    /// Forwarding: the hop count is tested before the subtype (40 for 11).
+    HopsBeforeSubtype,
+    /// Forwarding: a hop count of 0 goes on, as 3.
+    HopsWrap,
+    /// Forwarding: a hop count of 0 is told at the octet that it ends.
+    HopsAtOctet,
+    /// Forwarding: the list is searched before the hop count is tested (41 for 40).
+    SeenBeforeHops,
+    /// Forwarding: the message ID is the three octets that it begins in.
+    IdOfThreeOctets,
+    /// Forwarding: a seen ID is told at the message's first bit.
+    IdAtStart,
+    /// Forwarding: only the low 22 bits of a stored ID are looked at.
+    StoredIdCut,
+    /// Forwarding: a record is live that is just 5,000 ms old.
+    LiveAtLimit,
+    /// Forwarding: a record's age is taken modulo 2^32.
+    AgeWraps,
+    /// Forwarding: a record is live that is not in use.
+    UnusedLive,
+    /// Forwarding: the list is searched no further than to the first record that is not live.
+    SearchEndsAtFree,
+    /// Forwarding: a seen ID renews the time of its record.
+    SeenRenews,
+    /// Forwarding: no free record is told before a seen ID (42 for 41).
+    FullBeforeSeen,
+    /// Forwarding: the output's length is tested before the list is searched (8 for 41).
+    RoomBeforeSeen,
+    /// Forwarding: the output's length is tested before a free record is looked for (8 for 42).
+    RoomBeforeFree,
+    /// Forwarding: the ID is stored before the output's length is tested.
+    StoredBeforeRoom,
+    /// Forwarding: an output that is just as long as the message is too short.
+    OutputOneLonger,
+    /// Forwarding: the last record that is not live is taken, not the first.
+    LastFreeTaken,
+    /// Forwarding: a record that is not live is preferred if it has the same ID.
+    SameIdPreferred,
+    /// Forwarding: an empty list forwards, and stores nothing.
+    EmptyListForwards,
+    /// Forwarding: the hop count is kept.
+    HopsKept,
+    /// Forwarding: the hop count is two lower.
+    HopsTwoLower,
+    /// Forwarding: the flag for extensions is cleared.
+    ExtensionsCleared,
+    /// Forwarding: a message with a reserved T-Header is refused.
+    HeaderBehindTested,
+    /// Forwarding: the rest of the output is left.
+    OutputRestKept,
+    /// Forwarding: the output is zeroed to 65,535 octets alone.
+    OutputZeroedInPart,
+    /// Forwarding: the output is left where the message is refused.
+    RefusedOutputKept,
 }
 
 impl Fault {
-    /// Whether it is one of the capture program, which are the last.
+    /// Whether it is one of the capture program.
     pub fn is_of_captures(self) -> bool {
-        self >= Fault::NanosecondsRead
+        (Fault::NanosecondsRead..Fault::ForwardedOneLonger).contains(&self)
+    }
+
+    /// Whether it is one of the forwarding step, which are the last.
+    pub fn is_of_forwarding(self) -> bool {
+        self >= Fault::ForwardedOneLonger
     }
 }

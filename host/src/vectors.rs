@@ -15,14 +15,16 @@
 //! | `take BASIS MESSAGE K,K,..` | `ok` or `no:13:0:0`, then `ok:NUMBER:PLACE` or `no:NUMBER:PLACE:0` for each |
 //! | `bench BASIS STREAM` | the text printed, with a bar for each line end |
 //! | `capture BASIS FILE` | the same |
+//! | `forward BASIS MESSAGE NOW SEEN LENGTH` | `ok COUNT OCTETS` or a refusal, then SEEN afterwards |
 //! | `loaded BASIS STEPS` | what each step from a fresh state on told |
 //! | `forged BASIS STATE STEPS` | what each step from this state on told, its octets being anything |
 //! | `stored BASIS TABLE;TABLE;..` | `none`, or `TABLE 1 ROWS DEPTHS`: what a fresh state holds after these loads |
 //!
 //! BASIS is `-` where document 01 alone decides, and else the tickets of document 02 that may, `1`,
-//! `1,2`, `1,2,3` or `1,2,6`: a line whose refusal is 20 or above has one of these. TABLE is octets, or
-//! `LM` for the built-in table by name. A refusal is `no NUMBER PLACE 0`; the last cell is kept for a
-//! later count of missing bits.
+//! `1,2`, `1,2,3`, `1,2,6` or `1,2,7`: a line whose refusal is 20 or above has one of these. TABLE is
+//! octets, or `LM` for the built-in table by name. A refusal is `no NUMBER PLACE 0`; the last cell is kept
+//! for a later count of missing bits. SEEN is `-` for a list without records, else `ID/TIME/USED` joined
+//! by `,`, where USED is 0 or 1.
 //!
 //! STEPS are joined by `;`: `L:TABLE` loads, `R:MESSAGE:ROOM` reads. What they told stands in the same
 //! order, joined by `;`: `ok` for a load, `ok:COUNT:BITS:VALUES` for a reading, `no:NUMBER:PLACE:0`.
@@ -35,9 +37,10 @@ use std::collections::BTreeMap;
 use std::fmt::Write as _;
 
 use crate::assemble::state_with;
-use crate::case::{Case, Outcome, Step, Table, Told};
+use crate::case::{Case, Forwarded, Hop, Outcome, Step, Table, Told};
 use crate::codec::{
-    value_octets, Answer, Bits, Call, Codec, Element, Part, Refusal, StateOctets, Taken, FRESH,
+    value_octets, Answer, Bits, Call, Codec, Element, Part, Refusal, Seen, StateOctets, Taken,
+    FRESH,
 };
 
 /// The case files.
@@ -47,7 +50,8 @@ pub const STAGE01: &str = include_str!("../vectors/stage01.txt");
 pub const STAGE02: &str = include_str!("../vectors/stage02.txt");
 pub const LOADED: &str = include_str!("../vectors/loaded.txt");
 pub const CAPTURE: &str = include_str!("../vectors/capture.txt");
-pub const FILES: [&str; 6] = [BASE, EDGES, STAGE01, STAGE02, LOADED, CAPTURE];
+pub const FORWARD: &str = include_str!("../vectors/forward.txt");
+pub const FILES: [&str; 7] = [BASE, EDGES, STAGE01, STAGE02, LOADED, CAPTURE, FORWARD];
 
 /// A call with the outcome that it has to have.
 #[derive(Clone, Debug)]
@@ -174,6 +178,22 @@ impl<'a> Cells<'a> {
         }
     }
 
+    /// What a call that puts octets into an output of this size told, and the output afterwards.
+    fn put(&mut self, size: usize) -> Result<(Answer, Vec<u8>), String> {
+        let (answer, octets) = match self.verdict()? {
+            Ok(()) => {
+                let answer = Answer::Accepted {
+                    values: 0,
+                    bits: 0,
+                    octets: self.number()?,
+                };
+                (answer, self.octets()?)
+            }
+            Err(refusal) => (refusal.into(), Vec::new()),
+        };
+        Ok((answer, zeros_after(octets, size)?))
+    }
+
     /// The rest of the line, as a text that was printed.
     fn printed(&mut self) -> Outcome {
         let text = self.0.replace('|', "\n");
@@ -196,7 +216,7 @@ fn parse_line(words: &str, tail: usize) -> Result<(Case, Outcome), String> {
         "element" => false,
         _ => match cells.next()? {
             "-" => false,
-            "1" | "1,2" | "1,2,3" | "1,2,6" => true,
+            "1" | "1,2" | "1,2,3" | "1,2,6" | "1,2,7" => true,
             cell => {
                 return Err(format!(
                     "{cell} is neither document 01 nor tickets of document 02"
@@ -241,23 +261,13 @@ fn parse_line(words: &str, tail: usize) -> Result<(Case, Outcome), String> {
             let mut list = value_octets(&values(cells.next()?)?);
             list.extend(vec![0x5A; tail]);
             let size = cells.number()?;
-            let (answer, message) = match cells.verdict()? {
-                Ok(()) => {
-                    let answer = Answer::Accepted {
-                        values: 0,
-                        bits: 0,
-                        octets: cells.number()?,
-                    };
-                    (answer, cells.octets()?)
-                }
-                Err(refusal) => (refusal.into(), Vec::new()),
-            };
+            let (answer, output) = cells.put(size)?;
             let case = Case::Write {
                 table,
                 values: list,
                 output: size,
             };
-            (case, Outcome::Filled(answer, zeros_after(message, size)?))
+            (case, Outcome::Filled(answer, output))
         }
         "userdata" => {
             let message = cells.octets()?;
@@ -303,6 +313,7 @@ fn parse_line(words: &str, tail: usize) -> Result<(Case, Outcome), String> {
             let file = cells.octets()?;
             (Case::Capture { file }, cells.printed())
         }
+        "forward" => forwarding(&mut cells)?,
         "loaded" => steps(FRESH, &mut cells, tail)?,
         "forged" => {
             let state = cells.octets()?;
@@ -331,6 +342,27 @@ fn parse_line(words: &str, tail: usize) -> Result<(Case, Outcome), String> {
 /// The parts of a cell that are joined by `;`.
 fn listed<T>(cell: &str, part: impl FnMut(&str) -> Result<T, String>) -> Result<Vec<T>, String> {
     cell.split(';').map(part).collect()
+}
+
+/// A message that is forwarded over a list, and what that gave.
+fn forwarding(cells: &mut Cells) -> Result<(Case, Outcome), String> {
+    let message = cells.octets()?;
+    let now = cells.number()?;
+    let seen = records(cells.next()?)?;
+    let hop = Hop {
+        message,
+        now,
+        output: cells.number()?,
+    };
+    let (answer, output) = cells.put(hop.output)?;
+    let forwarded = Forwarded {
+        answer,
+        output,
+        seen: records(cells.next()?)?,
+    };
+    let steps = vec![hop];
+    let outcome = Outcome::Forwarded(vec![forwarded]);
+    Ok((Case::Forward { seen, steps }, outcome))
 }
 
 /// Steps with a state, and what they told.
@@ -462,6 +494,22 @@ pub fn values(cell: &str) -> Result<Vec<i64>, String> {
     Ok(values)
 }
 
+/// A cell of records.
+fn records(cell: &str) -> Result<Vec<Seen>, String> {
+    let record = |text: &str| match text.split('/').collect::<Vec<_>>()[..] {
+        [id, time, used @ ("0" | "1")] => Ok(Seen {
+            id: number(id)?,
+            time: number(time)?,
+            used: used == "1",
+        }),
+        _ => Err(format!("{text} is no record")),
+    };
+    match cell {
+        "-" => Ok(Vec::new()),
+        cell => cell.split(',').map(record).collect(),
+    }
+}
+
 /// `ok`, `ok:NUMBER:PLACE` or `no:NUMBER:PLACE:0`.
 fn step(cell: &str) -> Result<Result<Bits, Refusal>, String> {
     let parts: Vec<&str> = cell.split(':').collect();
@@ -544,6 +592,19 @@ pub fn values_cell(octets: &[u8]) -> String {
     cell
 }
 
+/// Records as a cell.
+fn records_cell(seen: &[Seen]) -> String {
+    if seen.is_empty() {
+        return "-".to_string();
+    }
+    let record = |record: &Seen| {
+        let used = u8::from(record.used);
+        format!("{}/{}/{used}", record.id, record.time)
+    };
+    let records: Vec<String> = seen.iter().map(record).collect();
+    records.join(",")
+}
+
 /// A case in words, its input as cells.
 pub fn case_text(case: &Case) -> String {
     let table_cell = |table: &Table| match table {
@@ -595,6 +656,18 @@ pub fn case_text(case: &Case) -> String {
             format!("{begun} {}", steps.join(";"))
         }
         Case::Capture { file } => format!("capture 1,2,6 {}", octets_cell(file)),
+        Case::Forward { seen, steps } => {
+            let hop = |(at, hop): (usize, &Hop)| {
+                let seen = match at {
+                    0 => records_cell(seen),
+                    _ => "(the list then)".to_string(),
+                };
+                let message = octets_cell(&hop.message);
+                format!("forward 1,2,7 {message} {} {seen} {}", hop.now, hop.output)
+            };
+            let hops: Vec<String> = steps.iter().enumerate().map(hop).collect();
+            hops.join("; ")
+        }
     }
 }
 
@@ -632,6 +705,14 @@ pub fn outcome_text(outcome: &Outcome) -> String {
                     ""
                 };
                 format!("{:?} and {}{spoilt}", told.answer, octets_cell(&told.slice))
+            };
+            let steps: Vec<String> = steps.iter().map(told).collect();
+            steps.join("; ")
+        }
+        Outcome::Forwarded(steps) => {
+            let told = |step: &Forwarded| {
+                let (output, seen) = (octets_cell(&step.output), records_cell(&step.seen));
+                format!("{:?} and {output}, {seen}", step.answer)
             };
             let steps: Vec<String> = steps.iter().map(told).collect();
             steps.join("; ")
@@ -690,6 +771,14 @@ mod tests {
             "loaded - R:00:1 no:27:0:0",
             "capture 1,2,6",
             "capture 1,2,9 - stop 30 at 0|frames 0|",
+            "forward 1,2,7 2300001f 0 - 4 no 42 0 0",
+            "forward 1,2,7 2300001f 0 - 4 no 42 0 4 -",
+            "forward 1,2,7 2300001f 0 7/0/2 4 no 42 0 0 7/0/2",
+            "forward 1,2,7 2300001f 0 7/0 4 no 42 0 0 7/0",
+            "forward 1,2,7 2300001f 4294967296 - 4 no 42 0 0 -",
+            "forward 1,2,7 2300001f 0 7/0/0 3 ok 4 2300001e 7/0/1",
+            "forward - 2300001f 0 - 4 no 42 0 0 -",
+            "forward 1,2,9 2300001f 0 - 4 no 42 0 0 -",
             "forged 1,2,3 00*6159 R:00:1 no:27:0:0",
             "stored 1,2,3 04000200 04000200 2 1 0/1",
             "stored 1,2,3 04000200 04000200 1 1 0",

@@ -1,23 +1,35 @@
 //! docs/HOST.md: its examples are the files in examples/, and they print what it says. The refusals
-//! have the same numbers, names and sentences in the documents, in Rust and in C.
+//! have the same numbers, names and sentences in the documents, in Rust and in C. docs/FORWARDING.md: its
+//! tables are run.
 
 use std::collections::BTreeSet;
 use std::env;
 use std::fs;
+use std::mem::offset_of;
 use std::path::{Path, PathBuf};
 use std::process::Command;
 
-use teyolxan_host::api::{Refusal, STATE_SIZE};
+use teyolxan_host::api::{self, Answer, Refusal, Seen, STATE_SIZE};
+use teyolxan_host::codec::Codec;
+use teyolxan_host::lm;
+use teyolxan_host::reference::{self, REFERENCE};
 
 const HOST: &str = include_str!("../../docs/HOST.md");
 const TABLES: &str = include_str!("../../docs/TABLES.md");
+const FORWARDING: &str = include_str!("../../docs/FORWARDING.md");
 const HEADER: &str = include_str!("../include/teyolxan.h");
 const LM_HEADER: &str = include_str!("../include/teyolxan_lm.h");
 const ANSWER_HEADER: &str = include_str!("../include/teyolxan_answer.h");
 
 /// The blocks of HOST.md that are marked with a language.
 fn blocks(language: &str) -> Vec<&'static str> {
-    HOST.split("\n```")
+    blocks_of(HOST, language)
+}
+
+/// The same of any document.
+fn blocks_of(document: &'static str, language: &str) -> Vec<&'static str> {
+    document
+        .split("\n```")
         .skip(1)
         .step_by(2)
         .filter_map(|block| block.strip_prefix(language)?.strip_prefix('\n'))
@@ -26,12 +38,13 @@ fn blocks(language: &str) -> Vec<&'static str> {
 
 /// The examples in the order in which they stand there, with the library that each links; with each is
 /// said what it prints.
-const EXAMPLES: [(&str, &str); 3] = [
+const EXAMPLES: [(&str, &str); 4] = [
     ("receiver", "teyolxan"),
+    ("forward", "teyolxan"),
     ("smallest", "teyolxan_lm"),
     ("host", "teyolxan"),
 ];
-const SMALLEST: usize = 1;
+const SMALLEST: usize = 2;
 
 /// Whether a block has declarations.
 fn declares(block: &str) -> bool {
@@ -52,11 +65,13 @@ fn example_blocks(language: &str) -> [String; EXAMPLES.len()] {
 fn the_examples_are_the_files() {
     let in_rust = [
         include_str!("../examples/receiver.rs"),
+        include_str!("../examples/forward.rs"),
         include_str!("../examples/smallest.rs"),
         include_str!("../examples/host.rs"),
     ];
     let in_c = [
         include_str!("../examples/receiver.c"),
+        include_str!("../examples/forward.c"),
         include_str!("../examples/smallest.c"),
         include_str!("../examples/host.c"),
     ];
@@ -69,7 +84,7 @@ fn the_examples_are_the_files() {
 fn the_declarations_are_those_of_the_headers() {
     let mut blocks = blocks("c");
     blocks.retain(|block| declares(block));
-    let headers = [(HEADER, 5), (LM_HEADER, 1)];
+    let headers = [(HEADER, 6), (LM_HEADER, 1)];
     assert_eq!(blocks.len(), headers.len());
     for (block, (header, count)) in blocks.into_iter().zip(headers) {
         for declaration in block.split("\n\n") {
@@ -158,6 +173,15 @@ fn compiled(compiler: &str, standard: &str, name: &str, sources: &[&Path]) -> Op
     Some(program)
 }
 
+/// Compiles a program that is written into a file of this name first.
+fn written(compiler: &str, standard: &str, file: &str, program: &str) -> Option<PathBuf> {
+    let folder = PathBuf::from(env!("CARGO_TARGET_TMPDIR"));
+    fs::create_dir_all(&folder).expect("a folder for the programs");
+    let source = folder.join(file);
+    fs::write(&source, program).expect("a program is written");
+    compiled(compiler, standard, &file.replace('.', "-in-"), &[&source])
+}
+
 #[test]
 fn the_c_examples_print_what_is_said() {
     let folder = Path::new(env!("CARGO_MANIFEST_DIR")).join("examples");
@@ -189,6 +213,52 @@ fn a_state_has_one_size() {
         STATE_SIZE == 6_160 && HOST.contains(said),
         "docs/HOST.md lacks: {said}"
     );
+}
+
+/// A record stands in memory in C and in C++ as in Rust, and in the documents.
+#[test]
+fn a_record_has_one_layout() {
+    const PROGRAM: &str = r#"#include "teyolxan.h"
+#include <stdio.h>
+
+struct aligned {
+    char before;
+    struct teyolxan_seen record;
+};
+
+int main(void)
+{
+    printf("%d %d %d\n", (int)offsetof(struct teyolxan_seen, id), (int)offsetof(struct teyolxan_seen, time),
+           (int)offsetof(struct teyolxan_seen, used));
+    printf("%d %d %d\n", (int)sizeof(bool), (int)sizeof(struct teyolxan_seen), (int)offsetof(struct aligned, record));
+    return 0;
+}
+"#;
+    let places = [
+        offset_of!(Seen, id),
+        offset_of!(Seen, time),
+        offset_of!(Seen, used),
+    ];
+    let sizes = [size_of::<bool>(), size_of::<Seen>(), align_of::<Seen>()];
+    let line = |[first, second, third]: [usize; 3]| format!("{first} {second} {third}\n");
+    for (compiler, standard, file) in [
+        ("cc", "-std=c99", "record.c"),
+        ("c++", "-std=c++11", "record.cc"),
+    ] {
+        if let Some(program) = written(compiler, standard, file, PROGRAM) {
+            assert_eq!(printed(&program), line(places) + &line(sizes));
+        }
+    }
+    assert_eq!((places, sizes), ([0, 4, 8], [1, 12, 4]));
+    for said in [
+        "stand in memory alike: 12 octets, aligned to 4",
+        "| 0 to 3 | `id` |",
+        "| 4 to 7 | `time` |",
+        "| 8 | `used` |",
+        "**`used` is a `bool`, and its octet is 0 or 1.**",
+    ] {
+        assert!(HOST.contains(said), "docs/HOST.md lacks: {said}");
+    }
 }
 
 #[test]
@@ -266,16 +336,11 @@ int main(void)
             format!("{of_table} {}\n", Refusal::meaning(number))
         })
         .collect();
-    let folder = PathBuf::from(env!("CARGO_TARGET_TMPDIR"));
-    fs::create_dir_all(&folder).expect("a folder for the programs");
     for (compiler, standard, file) in [
         ("cc", "-std=c99", "meanings.c"),
         ("c++", "-std=c++11", "meanings.cc"),
     ] {
-        let source = folder.join(file);
-        fs::write(&source, PROGRAM).expect("a program is written");
-        let name = file.replace('.', "-in-");
-        if let Some(program) = compiled(compiler, standard, &name, &[&source]) {
+        if let Some(program) = written(compiler, standard, file, PROGRAM) {
             assert_eq!(printed(&program), expected);
         }
     }
@@ -284,8 +349,6 @@ int main(void)
 /// A program that takes a header and asks for no sentence has no warning either; nor one that takes both.
 #[test]
 fn the_headers_alone_have_no_warning() {
-    let folder = PathBuf::from(env!("CARGO_TARGET_TMPDIR"));
-    fs::create_dir_all(&folder).expect("a folder for the programs");
     let (tables, lm) = ("teyolxan.h", "teyolxan_lm.h");
     for (number, headers) in [vec![tables], vec![lm], vec![tables, lm], vec![lm, tables]]
         .iter()
@@ -294,10 +357,240 @@ fn the_headers_alone_have_no_warning() {
         let includes = headers.iter().map(|name| format!("#include \"{name}\"\n"));
         let program = includes.collect::<String>() + "int main(void) { return 0; }\n";
         for (compiler, standard, end) in [("cc", "-std=c99", "c"), ("c++", "-std=c++11", "cc")] {
-            let name = format!("headers-{number}-in-{end}");
-            let source = folder.join(format!("headers-{number}.{end}"));
-            fs::write(&source, &program).expect("a program is written");
-            compiled(compiler, standard, &name, &[&source]);
+            written(
+                compiler,
+                standard,
+                &format!("headers-{number}.{end}"),
+                &program,
+            );
+        }
+    }
+}
+
+// ---- FORWARDING.md ---------------------------------------------------------------------------
+
+/// The cells of the table that has this header.
+fn table(header: &str) -> Vec<Vec<&'static str>> {
+    let (_, rest) = FORWARDING
+        .split_once(&format!("\n\n{header}\n"))
+        .unwrap_or_else(|| panic!("docs/FORWARDING.md lacks: {header}"));
+    let row = |line: &'static str| {
+        let cells = line.strip_prefix('|')?.strip_suffix('|')?;
+        Some(cells.split('|').map(str::trim).collect())
+    };
+    rest.lines().skip(1).map_while(row).collect()
+}
+
+/// A number, as in 2,720,407.
+fn number(text: &str) -> u32 {
+    let digits = text.replace(',', "");
+    digits
+        .parse()
+        .unwrap_or_else(|_| panic!("no number: {text}"))
+}
+
+/// The number as it is written there.
+fn grouped(number: u32) -> String {
+    let digits = number.to_string();
+    let groups: Vec<_> = digits.as_bytes().rchunks(3).rev().collect();
+    String::from_utf8(groups.join(&b',')).expect("digits")
+}
+
+/// The octets between the first two backticks of a cell.
+fn octets(cell: &str) -> Vec<u8> {
+    let text = cell.split('`').nth(1).expect("octets");
+    text.split(' ')
+        .map(|octet| u8::from_str_radix(octet, 16).expect("an octet"))
+        .collect()
+}
+
+/// "41 at 8" for a refusal.
+fn refused(answer: Answer) -> Option<String> {
+    let Refusal { number, place } = answer.refusal()?;
+    Some(format!("{number} at {place}"))
+}
+
+/// What stands before a colon, which begins a remark.
+fn told(cell: &str) -> &str {
+    cell.split(':').next().unwrap_or_default()
+}
+
+type Forward = fn(&[u8], u32, &mut [Seen], &mut [u8]) -> Answer;
+
+/// The library's step, and the reference's.
+const STEPS: [Forward; 2] = [api::forward, reference::forward];
+
+fn squeezed(text: &str) -> String {
+    text.split_whitespace().collect::<Vec<_>>().join(" ")
+}
+
+#[test]
+fn the_declarations_of_forwarding_are_those_of_the_header() {
+    let block = blocks_of(FORWARDING, "c")[0];
+    let header = squeezed(HEADER);
+    let starts = ["struct teyolxan_seen {", "void teyolxan_forward("];
+    let declarations: Vec<_> = block.split("\n\n").map(squeezed).collect();
+    assert_eq!(declarations.len(), starts.len());
+    for (declaration, start) in declarations.iter().zip(starts) {
+        assert!(declaration.starts_with(start), "{declaration}");
+        assert!(header.contains(declaration), "{declaration}");
+    }
+}
+
+/// Each call below is refused for its own reason, and for all that stand behind it in the order.
+#[test]
+fn the_answers_of_forwarding_come_in_their_order() {
+    let live = Seen {
+        id: 0,
+        time: 0,
+        used: true,
+    };
+    let calls: [(&[u8], Seen, usize); 9] = [
+        (&[0; 65_536], live, 0),
+        (&[0; 3], live, 0),
+        (&[0; 4], live, 0),
+        (&[0x03, 0, 0, 0], live, 0),
+        (&[0x23, 0, 0, 0], live, 0),
+        (&[0x23, 0, 0, 1], live, 0),
+        (&[0x23, 0, 0, 5], live, 0),
+        (&[0x23, 0, 0, 5], Seen::default(), 0),
+        (&[0x23, 0, 0, 5], Seen::default(), 4),
+    ];
+    let rows = table("| Answer | Name | Place | When | What a unit does |");
+    assert_eq!(rows.len(), calls.len());
+    for (row, (message, record, room)) in rows.iter().zip(calls) {
+        for forward in STEPS {
+            let answer = forward(message, 0, &mut [record], &mut vec![0; room]);
+            match answer.refusal() {
+                None => assert_eq!(row[0], "accepted"),
+                Some(Refusal { number, place }) => {
+                    let name = Refusal::name(number).expect("a name");
+                    let expected = [number.to_string(), format!("`{name}`"), place.to_string()];
+                    assert_eq!(row[..3], expected);
+                }
+            }
+        }
+    }
+}
+
+/// The worked example: its bits, the six numbers, the output and the list.
+#[test]
+fn the_example_of_forwarding_is_what_the_call_gives() {
+    let (_, example) = FORWARDING
+        .split_once("\n## An example\n")
+        .expect("an example");
+    let message = octets(example);
+    let setting =
+        "\nAt time 1,000, with a list of two records, all zeros, and an output of 12 octets:\n";
+    let (_, results) = example.split_once(setting).expect("the setting");
+    for forward in STEPS {
+        let (mut seen, mut output) = ([Seen::default(); 2], [0xAA; 12]);
+        let answer = forward(&message, 1_000, &mut seen, &mut output);
+        let Answer::Accepted {
+            values,
+            bits,
+            octets: sent,
+        } = answer
+        else {
+            panic!("{answer:?}");
+        };
+        let listed = seen.map(|record| {
+            let used = if record.used { "in use" } else { "not in use" };
+            let [id, time] = [record.id, record.time].map(grouped);
+            format!("({id}, {time}, {used})")
+        });
+        let shown = output.map(|octet| format!("{octet:02X}")).join(" ");
+        let expected = format!(
+            "\n| | |\n|---|---|\n| the six numbers | 0 0 {values} {bits} {sent} 0 |\n\
+             | the output | `{shown}`, of which the first {sent} octets are sent |\n\
+             | the list | {} |\n",
+            listed.join(", ")
+        );
+        assert!(results.starts_with(&expected), "{expected}");
+        parts_are(&message, &output[..message.len()]);
+    }
+}
+
+/// The bits of the worked example, before and after: the parts are all of it, one behind another.
+fn parts_are(message: &[u8], output: &[u8]) {
+    let bits = |octets: &[u8]| -> String {
+        let bits = octets.iter().map(|octet| format!("{octet:08b}"));
+        bits.collect()
+    };
+    let (before, after) = (bits(message), bits(output));
+    let mut next = 0;
+    for row in table("| Place | Bits | Value | Part | In the output |") {
+        assert_eq!(row[0], next.to_string());
+        let part = match row[1].starts_with('`') {
+            true => bits(&octets(row[1])),
+            false => {
+                let value = u32::from_str_radix(row[1], 2).expect("bits");
+                assert_eq!(row[2], grouped(value));
+                row[1].to_string()
+            }
+        };
+        let place = next..next + part.len();
+        assert_eq!(before[place.clone()], part);
+        match row[4].split_once(", which is ") {
+            None => assert_eq!((row[4], &after[place]), ("the same", &part[..])),
+            Some((lower, value)) => {
+                assert_eq!(after[place], *lower);
+                assert_eq!(u32::from_str_radix(lower, 2), Ok(number(value)));
+            }
+        }
+        next += part.len();
+    }
+    assert_eq!(next, before.len());
+}
+
+/// The calls with a list of two records, one after another.
+#[test]
+fn a_list_of_two_records_goes_as_told() {
+    let rows = table("| Now | Message ID, hop count | Answer | The list afterwards: ID, time |");
+    assert_eq!(rows.len(), 8);
+    for forward in STEPS {
+        let mut seen = [Seen::default(); 2];
+        for row in &rows {
+            let (id, hops) = row[1].rsplit_once(", ").expect("an ID and a hop count");
+            let head = 0x23 << 24 | number(id) << 2 | number(hops);
+            let mut output = [0; 4];
+            let answer = forward(&head.to_be_bytes(), number(row[0]), &mut seen, &mut output);
+            let given = match refused(answer) {
+                Some(refused) => {
+                    assert_eq!(output, [0; 4]);
+                    refused
+                }
+                None => {
+                    assert_eq!(u32::from_be_bytes(output), head - 1);
+                    format!("goes on with {}", (head - 1) & 0b11)
+                }
+            };
+            let said = told(row[2]).split(',').next();
+            assert_eq!(said, Some(given.as_str()), "{row:?}");
+            let listed = seen.map(|record| match record {
+                Seen { used: false, .. } => "free".to_string(),
+                Seen { id, time, .. } => format!("({}, {})", grouped(id), grouped(time)),
+            });
+            assert_eq!(row[3], listed.join(", "), "{row:?}");
+        }
+    }
+}
+
+/// What can't be read goes on nevertheless.
+#[test]
+fn broken_messages_go_on_as_told() {
+    let rows = table("| Message | Read as an LM by name | Forwarded |");
+    assert_eq!(rows.len(), 4);
+    for row in rows {
+        let message = octets(row[0]);
+        let by_name = REFERENCE.read_lm(&message, &mut [0; 8 * 64]);
+        for answer in [by_name, lm::read(&message, &mut [0; 64])] {
+            assert_eq!(refused(answer).as_deref(), Some(told(row[1])), "{row:?}");
+        }
+        for forward in STEPS {
+            let mut output = vec![0; message.len()];
+            let answer = forward(&message, 0, &mut [Seen::default()], &mut output);
+            assert_eq!((refused(answer), output), (None, octets(row[2])), "{row:?}");
         }
     }
 }

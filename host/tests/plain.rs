@@ -191,10 +191,13 @@ fn drawn_cases_agree() {
         }
         let accepted = stats.accepted;
         assert!(accepted * 4 > stats.cases, "{accepted} accepted");
-        // An LM has no number that its bits could be above, and nothing here is lent, loaded or written.
+        // An LM has no number that its bits could be above, and nothing here is lent, loaded, written or
+        // forwarded.
         for (number, count) in stats.refusals() {
             let by_others = [Refusal::ABOVE_SPAN, Refusal::WRONG_VALUE, Refusal::NO_TABLE];
-            let never = Refusal::is_of_table(number) || by_others.contains(&number);
+            let never = Refusal::is_of_table(number)
+                || Refusal::is_of_forwarding(number)
+                || by_others.contains(&number);
             assert_ne!(count > 0, never, "refusal {number}");
         }
     }

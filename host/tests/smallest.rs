@@ -191,6 +191,7 @@ fn the_library_with_tables_has_the_engine() {
         library.offered,
         [
             "teyolxan_check",
+            "teyolxan_forward",
             "teyolxan_load",
             "teyolxan_read",
             "teyolxan_read_loaded",

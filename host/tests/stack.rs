@@ -1,16 +1,18 @@
 //! The deepest and widest tables, lent and loaded, and states that are deeper than any table, in a
-//! thread with a small stack. And what the plain LM reader takes of a stack, counted.
+//! thread with a small stack. And what the plain LM reader and forwarding take of a stack, counted.
 
 use std::thread;
 
-use teyolxan_host::api::{self, State};
+use teyolxan_host::api::{self, Seen, State};
 use teyolxan_host::archive::ARCHIVE;
 use teyolxan_host::assemble::{state_with, Assembler, Offset};
 use teyolxan_host::by_name;
 use teyolxan_host::codec::{value_octets, Answer, Codec, Refusal, StateOctets};
 use teyolxan_host::guarded::stack_of;
 use teyolxan_host::lm;
-use teyolxan_host::random::{forged_state, lm_list, lm_message, message_through, pack, Random};
+use teyolxan_host::random::{
+    forged_state, forwarding, lm_list, lm_message, message_through, pack, Random,
+};
 use teyolxan_host::reference::{self, index_width, LENGTH_MOST};
 
 /// The stack of the calling thread, in octets. It holds the thread's own data too.
@@ -399,4 +401,42 @@ fn reading_without_a_table_needs_under_a_kibibyte_of_stack() {
     }
     println!("{most} octets");
     assert!(most < PLAIN, "{most} octets");
+}
+
+/// The octets of stack that forwarding has to stay below.
+const FORWARD: usize = 1_024;
+
+/// The stack that forwarding a message takes. It is forwarded as the reference does.
+fn forward_stack(message: &[u8], now: u32, seen: &mut [Seen], size: usize) -> usize {
+    let (mut after, mut sent) = (seen.to_vec(), vec![0; size]);
+    let expected = reference::forward(message, now, &mut after, &mut sent);
+    let mut given = Answer::PASSED;
+    let mut output = vec![0xAA; size];
+    let taken = stack_of(|| given = api::forward(message, now, seen, &mut output));
+    assert_eq!(given, expected);
+    assert!(seen == after && output == sent);
+    taken
+}
+
+/// The longest message over a long list, and sequences of any.
+#[test]
+fn forwarding_needs_under_a_kibibyte_of_stack() {
+    let mut longest = vec![0xFF; 65_535];
+    longest[..4].copy_from_slice(&[0x23, 0, 0, 7]);
+    let live = Seen {
+        id: 0,
+        time: 0,
+        used: true,
+    };
+    let mut list = vec![live; 1_000];
+    list.push(Seen::default());
+    let mut most = forward_stack(&longest, 0, &mut list, 70_000);
+    for number in 0..200 {
+        let (mut seen, hops) = forwarding(&mut Random::for_case(13, number), 50);
+        for hop in hops {
+            most = most.max(forward_stack(&hop.message, hop.now, &mut seen, hop.output));
+        }
+    }
+    println!("{most} octets");
+    assert!(most < FORWARD, "{most} octets");
 }

@@ -1,5 +1,5 @@
-//! The independent codec, written from document 01 and tickets 1 to 3 and 6 of document 02 alone:
-//! what other codecs are compared with, and the baseline for their speed.
+//! The independent codec, written from document 01 and tickets 1 to 3, 6 and 7 of document 02
+//! alone: what other codecs are compared with, and the baseline for their speed.
 //!
 //! No call panics or overflows, whatever it is given. Reading and writing allocate nothing.
 //!
@@ -19,20 +19,24 @@
 //! | `opened` | the opened message |
 //! | `bench` | the bench program |
 //! | `capture` | the capture program |
+//! | `forward` | the forwarding step |
+//! | `straight_step` | the same, written out by hand for speed |
 
 mod bench;
 mod bits;
 mod capture;
 mod elements;
+mod forward;
 mod lm;
 mod loaded;
 mod opened;
 mod read;
 pub mod straight;
+pub mod straight_step;
 mod table;
 mod write;
 
-use crate::codec::{Answer, Bits, Call, Codec, Element, Part, Refusal, StateOctets, Taken};
+use crate::codec::{Answer, Bits, Call, Codec, Element, Part, Refusal, Seen, StateOctets, Taken};
 use crate::mutants::Fault;
 
 pub use bits::{index_width, number_width};
@@ -193,6 +197,11 @@ pub fn capture(file: &[u8]) -> String {
     Reference::run_capture(file)
 }
 
+/// Forwards a message into the output, at this time, over this list of what was forwarded.
+pub fn forward(message: &[u8], now: u32, seen: &mut [Seen], output: &mut [u8]) -> Answer {
+    Reference::forward_message(message, now, seen, output)
+}
+
 // ---- As a codec under test -------------------------------------------------------------------
 
 impl<const F: u8> Engine<F> {
@@ -278,5 +287,9 @@ impl<const F: u8> Codec for Engine<F> {
 
     fn capture(&self, file: &[u8]) -> String {
         Self::run_capture(file)
+    }
+
+    fn forward(&self, message: &[u8], now: u32, seen: &mut [Seen], output: &mut [u8]) -> Answer {
+        Self::forward_message(message, now, seen, output)
     }
 }

@@ -5,12 +5,12 @@ use teyolxan_host::archive::{Archive, Plain, Values, CALLS};
 use teyolxan_host::builtin;
 use teyolxan_host::by_name::Name;
 use teyolxan_host::case::{Case, Step, Table};
-use teyolxan_host::codec::{value_octets, Answer, Bits, Call, Codec, Refusal, FRESH};
+use teyolxan_host::codec::{value_octets, Answer, Bits, Call, Codec, Refusal, Seen, FRESH};
 use teyolxan_host::compare::{self, compare_one, short, Stats};
 use teyolxan_host::guarded::Guarded;
 use teyolxan_host::random::{
-    allowed_list, forged_state, large_list, lm_list, message_through, nearly_passing_table,
-    passing_table, some_budget, some_message, wrong_list, Drawn, Random,
+    allowed_list, forged_state, forwarding, large_list, lm_list, message_through,
+    nearly_passing_table, passing_table, some_budget, some_message, wrong_list, Drawn, Random,
 };
 use teyolxan_host::reference::{self, lm_table, root_of, MESSAGE_MOST, REFERENCE};
 use teyolxan_host::vectors::{case_text, octets_cell};
@@ -53,6 +53,7 @@ impl Fuzzed {
                     &["teyolxan_load", "teyolxan_read_loaded", "probe_read_loaded"]
                 }
                 Call::ReadLoaded => &["teyolxan_read_loaded", "probe_read_loaded"],
+                Call::Forward => &["teyolxan_forward"],
             },
             Fuzzed::ByName(name, case) => match (name, case.call()) {
                 (Name::Lm, _) => &[], // a call that both codecs make as it is
@@ -159,6 +160,7 @@ pub fn draw(random: &mut Random) -> Fuzzed {
         0..=15 => Fuzzed::Case(compare::draw(random, &CALLS)),
         16 => draw_take(random),
         17..=20 => draw_state(random),
+        21..=22 => draw_forward(random),
         _ => draw_any(random),
     };
     match drawn {
@@ -201,6 +203,31 @@ fn draw_state(random: &mut Random) -> Fuzzed {
         });
     }
     Fuzzed::Case(Case::ReadLoaded { state, steps })
+}
+
+/// Messages that are forwarded over any list, with slices of any lengths.
+fn draw_forward(random: &mut Random) -> Fuzzed {
+    let (mut seen, mut steps) = forwarding(random, 4);
+    if random.one_in(8) {
+        let count = some_size(random, seen.len());
+        seen.resize_with(count, || Seen {
+            id: random.word() as u32,
+            time: random.word() as u32,
+            used: random.one_in(2),
+        });
+    }
+    for hop in &mut steps {
+        match random.below(8) {
+            0 => {
+                let size = some_size(random, 4);
+                hop.message = some_octets(random, size);
+            }
+            1..=2 => resize(random, &mut hop.message),
+            _ => (),
+        }
+        hop.output = some_size(random, hop.message.len());
+    }
+    Fuzzed::Case(Case::Forward { seen, steps })
 }
 
 fn draw_take(random: &mut Random) -> Fuzzed {

@@ -144,7 +144,7 @@ fn harm(plant: &str) {
         "Difference" => panic!("a planted difference"),
         "Hang" => thread::sleep(Duration::from_secs(600)),
         _ => {
-            let mut trespasses = Trespass::ALL.into_iter();
+            let mut trespasses = Trespass::all().into_iter();
             let trespass = trespasses.find(|trespass| format!("{trespass:?}") == plant);
             trespass.expect("a trespass of this name").commit();
             panic!("{plant} was not stopped");
@@ -180,7 +180,7 @@ const SIGSEGV: i32 = 11;
 
 #[test]
 fn a_call_that_leaves_its_slices_dies_and_is_told() {
-    for trespass in Trespass::ALL {
+    for trespass in Trespass::all() {
         let (end, report) = planted(format!("{trespass:?}"), PATIENCE);
         assert_eq!(end, End::Died(SIGSEGV), "{trespass:?}");
         assert!(report.contains("died by signal 11\nin "), "{report}");

@@ -5,13 +5,13 @@ use std::hint::black_box;
 
 use teyolxan_host::api::{self, State};
 use teyolxan_host::by_name::{self, Name, Numbers};
-use teyolxan_host::codec::{Answer, Bits, Refusal};
+use teyolxan_host::codec::{Answer, Bits, Refusal, Seen};
 use teyolxan_host::lm;
-use teyolxan_host::reference::{self, straight, Opened, Passed};
+use teyolxan_host::reference::{self, straight, straight_step, Opened, Passed};
 
 #[cfg(feature = "asn1c")]
 use crate::asn1c;
-use crate::subjects::{Job, Kind, Message, Subject};
+use crate::subjects::{Job, Kind, Message, Step, Subject};
 
 /// Who makes the call. A lent table is checked in the call, a loaded one was before, any other is known
 /// to pass; ours plain and straight Rust have none.
@@ -49,8 +49,9 @@ impl Way {
             Job::Write => vec![Way::Ours, Way::OursLent, Way::Rust, Way::RustLent],
             Job::Take => vec![Way::Ours, Way::OursBitwise, Way::Rust, Way::RustBitwise],
             Job::Check => vec![Way::Ours, Way::OursLoaded, Way::Rust],
+            Job::Forward => vec![Way::Ours, Way::Straight],
         };
-        if cfg!(feature = "asn1c") && job != Job::Check {
+        if cfg!(feature = "asn1c") && !matches!(job, Job::Check | Job::Forward) {
             ways.push(Way::Asn1c);
         }
         ways
@@ -87,6 +88,7 @@ pub fn prepare(job: Job, subject: &Subject, way: Way) -> Option<Work> {
         (Job::Write, Subject::Message(message)) => write(message, way),
         (Job::Take, Subject::Bits(width)) => take(*width, way),
         (Job::Check, Subject::Table { table, .. }) => check(table.clone(), way),
+        (Job::Forward, Subject::Step(step)) => forward(step, way),
         _ => None,
     }
 }
@@ -328,6 +330,46 @@ fn check(table: Vec<u8>, way: Way) -> Option<Work> {
     };
     assert_eq!(call(&table), Answer::PASSED);
     Some(repeated(move || call(black_box(&table))))
+}
+
+// ---- Forwarding ------------------------------------------------------------------------------
+
+/// The octets that there is room for.
+const OUTPUT: usize = 64;
+
+fn forward(step: &Step, way: Way) -> Option<Work> {
+    match way {
+        Way::Ours => Some(forwarding(step, api::forward)),
+        Way::Straight => Some(forwarding(step, straight_step::forward)),
+        _ => None,
+    }
+}
+
+/// Before each call the record that it stores is put back.
+fn forwarding(
+    step: &Step,
+    call: impl Fn(&[u8], u32, &mut [Seen], &mut [u8]) -> Answer + 'static,
+) -> Work {
+    let (message, now, mut seen) = (step.message.clone(), step.now, step.seen.clone());
+    let (mut after, mut sent) = (seen.clone(), [0; OUTPUT]);
+    let expected = reference::forward(&message, now, &mut after, &mut sent);
+    let mut output = [0xFF; OUTPUT];
+    let answer = call(&message, now, &mut seen, &mut output);
+    let right = (answer, &seen, output) == (expected, &after, sent);
+    assert!(right, "{}: {answer:?}", step.title);
+    let mut pairs = step.seen.iter().zip(&seen);
+    let stored = pairs.position(|(before, after)| before != after);
+    let stored = stored.unwrap_or(0);
+    let before = step.seen[stored];
+    repeated(move || {
+        seen[stored] = before;
+        call(
+            black_box(&message),
+            now,
+            black_box(&mut seen),
+            black_box(&mut output),
+        )
+    })
 }
 
 // ---- asn1c -----------------------------------------------------------------------------------

@@ -19,7 +19,9 @@ mod tables;
 
 use calls::{prepare, Way};
 use subjects::Job;
-use tables::{fetch_limits, loaded_limits, plain_limits, print_table, summary};
+use tables::{
+    by_name_limits, fetch_limits, forward_limits, loaded_limits, plain_limits, print_table, summary,
+};
 
 /// The tables of times, with those of instructions or without, and what they come to.
 fn print_tables(counts: bool) {
@@ -39,9 +41,15 @@ fn print_tables(counts: bool) {
     }
     println!("\n{}", summary(&times));
     if counts {
-        println!("\n{}", loaded_limits(&counted));
-        println!("\n{}", plain_limits(&counted));
-        println!("\n{}", fetch_limits(&counted));
+        for limits in [
+            loaded_limits,
+            plain_limits,
+            fetch_limits,
+            forward_limits,
+            by_name_limits,
+        ] {
+            println!("\n{}", limits(&counted));
+        }
     }
 }
 

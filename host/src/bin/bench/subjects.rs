@@ -3,7 +3,7 @@
 use teyolxan_host::assemble::Assembler;
 use teyolxan_host::builtin;
 use teyolxan_host::by_name::Name;
-use teyolxan_host::codec::Answer;
+use teyolxan_host::codec::{Answer, Seen};
 use teyolxan_host::reference::{self, BENCH_ROOM, LENGTH_MOST, TABLE_MOST};
 
 /// The titles of messages that the limits name.
@@ -13,6 +13,11 @@ pub const P3: &str = "P3";
 pub const TEN_ELEMENTS: &str = "LM, ten elements";
 pub const TEN_ROWS: &str = "ten rows";
 pub const TEN_ROWS_OF_MANY: &str = "ten rows of many";
+pub const SERVICES: &str = "SAM, 31 services";
+pub const OTHER_SUBTYPE: &str = "refused at the head";
+pub const NONE_USED: &str = "none in use";
+pub const ALL_OLD: &str = "all old";
+pub const LAST_FREE: &str = "63 live, the last free";
 
 #[derive(Clone, Copy, Debug, PartialEq, Eq)]
 pub enum Job {
@@ -20,10 +25,11 @@ pub enum Job {
     Write,
     Take,
     Check,
+    Forward,
 }
 
 impl Job {
-    pub const ALL: [Job; 4] = [Job::Read, Job::Write, Job::Take, Job::Check];
+    pub const ALL: [Job; 5] = [Job::Read, Job::Write, Job::Take, Job::Check, Job::Forward];
 
     pub fn title(self) -> &'static str {
         match self {
@@ -31,6 +37,7 @@ impl Job {
             Job::Write => "Writing a message",
             Job::Take => "Fetching bits",
             Job::Check => "Checking and loading a table",
+            Job::Forward => "Forwarding a message",
         }
     }
 
@@ -41,6 +48,7 @@ impl Job {
             Job::Write => "writing",
             Job::Take => "fetching",
             Job::Check => "checking",
+            Job::Forward => "forwarding",
         }
     }
 
@@ -56,6 +64,7 @@ impl Job {
             ]
             .map(|(title, table)| Subject::Table { title, table })
             .into(),
+            Job::Forward => steps().map(Subject::Step).into(),
         }
     }
 }
@@ -69,6 +78,7 @@ pub enum Subject {
     },
     /// The width of a fetch.
     Bits(u32),
+    Step(Step),
 }
 
 impl Subject {
@@ -76,6 +86,7 @@ impl Subject {
         match self {
             Subject::Message(message) => message.title.to_string(),
             Subject::Table { title, .. } => title.to_string(),
+            Subject::Step(step) => step.title.to_string(),
             Subject::Bits(1) => "1 bit".to_string(),
             Subject::Bits(width) => format!("{width} bits"),
         }
@@ -238,7 +249,7 @@ fn messages() -> [Message; 13] {
         ("LM, 200 octets", Lm, lm_of(200)),
         ("LM, 1,400 octets", Lm, lm_of(1_400)),
         ("LM, 16,383 octets", Lm, lm_of(16_383)),
-        ("SAM, 31 services", Sam, sam_of_services()),
+        (SERVICES, Sam, sam_of_services()),
         ("4,000 octet numbers", OctetNumbers, run_of(4_000, 251)),
         (
             "4,000 two-octet numbers",
@@ -254,4 +265,61 @@ fn messages() -> [Message; 13] {
         (TEN_ROWS_OF_MANY, TenRowsOfMany, (1..=9).collect()),
     ]
     .map(|(title, kind, values)| Message::new(title, kind, values))
+}
+
+/// A message that is forwarded at a time, and the list before it.
+pub struct Step {
+    pub title: &'static str,
+    pub message: Vec<u8>,
+    pub now: u32,
+    pub seen: Vec<Seen>,
+}
+
+/// The message ID of what is forwarded, and the time.
+const ID: u32 = 4_000;
+const NOW: u32 = 100_000;
+/// The octets of what is forwarded, and those before its user data.
+const FORWARDED: i64 = 40;
+const HEADERS: i64 = 7;
+
+/// An N-hop LM; and the same octets as another LM.
+fn n_hop_lm() -> Vec<u8> {
+    let length = FORWARDED - HEADERS;
+    let mut values = vec![2, 0, 3, i64::from(ID), 3, 0, 0, 32, length];
+    values.extend(0..length);
+    Message::new("N-hop LM", Kind::Lm, values).octets
+}
+
+/// A list of 64 records with other IDs, stored some milliseconds ago.
+fn records(ago: u32) -> Vec<Seen> {
+    let record = |id| Seen {
+        id,
+        time: NOW - ago - id,
+        used: true,
+    };
+    (0..64).map(record).collect()
+}
+
+fn steps() -> [Step; 5] {
+    let message = n_hop_lm();
+    let mut other = message.clone();
+    other[0] &= 0x0F; // subtype 0
+    let none = vec![Seen::default(); 64];
+    let mut last_free = records(0);
+    last_free[63] = Seen::default();
+    let mut has_it = records(0);
+    has_it[63].id = ID;
+    [
+        (OTHER_SUBTYPE, &other, none.clone()),
+        (NONE_USED, &message, none),
+        (ALL_OLD, &message, records(5_000)),
+        (LAST_FREE, &message, last_free),
+        ("64 live, the ID in the last", &message, has_it),
+    ]
+    .map(|(title, message, seen)| Step {
+        title,
+        message: message.clone(),
+        now: NOW,
+        seen,
+    })
 }

@@ -5,7 +5,10 @@ use teyolxan_host::api::STATE_SIZE;
 
 use crate::calls::Way;
 use crate::measure::Cost;
-use crate::subjects::{Job, Subject, P1, P2, P3, TEN_ELEMENTS, TEN_ROWS, TEN_ROWS_OF_MANY};
+use crate::subjects::{
+    Job, Subject, ALL_OLD, LAST_FREE, NONE_USED, OTHER_SUBTYPE, P1, P2, P3, SERVICES, TEN_ELEMENTS,
+    TEN_ROWS, TEN_ROWS_OF_MANY,
+};
 
 /// A ratio up to this is close.
 const CLOSE: f64 = 1.1;
@@ -26,6 +29,25 @@ const PLAIN_BY_NAME: f64 = 0.6;
 
 /// The instructions that fetching bits has to stay below, the loop around it and the call included.
 const FETCH_BELOW: f64 = 59.0;
+
+/// The most instructions that forwarding may cost, and the most divided by straight Rust.
+const FORWARD: [(&str, f64); 4] = [
+    (OTHER_SUBTYPE, 150.0),
+    (NONE_USED, 900.0),
+    (ALL_OLD, 900.0),
+    (LAST_FREE, 1_400.0),
+];
+const FORWARD_BY_STRAIGHT: f64 = 1.5;
+
+/// The instructions of reading by name before messages were forwarded, and the most that it may cost
+/// since, divided by them.
+const BY_NAME: [(&str, f64); 4] = [
+    (P1, 1_695.0),
+    (P2, 1_886.0),
+    (P3, 2_366.0),
+    (SERVICES, 21_255.0),
+];
+const BY_NAME_SINCE: f64 = 1.01;
 
 /// What a table tells beside what it prints.
 pub struct Measured {
@@ -80,6 +102,7 @@ fn ratios(job: Job) -> Vec<(&'static str, Way, Way)> {
             ("ours / Rust", Way::Ours, Way::Rust),
             ("ours / bit by bit", Way::Ours, Way::OursBitwise),
         ],
+        Job::Forward => vec![("ours / straight", Way::Ours, Way::Straight)],
     }
 }
 
@@ -89,6 +112,7 @@ fn sizes(job: Job) -> &'static [&'static str] {
         Job::Read | Job::Write => &["octets", "values"],
         Job::Take => &[],
         Job::Check => &["octets"],
+        Job::Forward => &["octets", "records"],
     }
 }
 
@@ -97,6 +121,7 @@ fn sizes_of(subject: &Subject) -> Vec<usize> {
         Subject::Message(message) => vec![message.octets.len(), message.values.len()],
         Subject::Table { table, .. } => vec![table.len()],
         Subject::Bits(_) => vec![],
+        Subject::Step(step) => vec![step.message.len(), step.seen.len()],
     }
 }
 
@@ -307,6 +332,49 @@ pub fn fetch_limits(counts: &[Line]) -> String {
     )
 }
 
+/// Whether the instructions of forwarding stay below their limits: numbers, and straight Rust's.
+pub fn forward_limits(counts: &[Line]) -> String {
+    let lines = FORWARD.map(|(subject, most)| {
+        let cost = |way: Way| cost(counts, Job::Forward, subject, way);
+        let ours = cost(Way::Ours);
+        (subject, ours, most, ours / cost(Way::Straight))
+    });
+    let listed = lines.map(|(subject, ours, most, ratio)| {
+        format!(
+            "{} of {} and {ratio:.2} ({subject})",
+            shown(ours),
+            shown(most)
+        )
+    });
+    let all = lines
+        .iter()
+        .all(|&(_, ours, most, ratio)| ours <= most && ratio <= FORWARD_BY_STRAIGHT);
+    format!(
+        "Limits in instructions, forwarding, and divided by straight Rust of {FORWARD_BY_STRAIGHT}: {}. {}",
+        listed.join(", "),
+        kept(all),
+    )
+}
+
+/// Whether reading by name takes as many instructions as it did.
+pub fn by_name_limits(counts: &[Line]) -> String {
+    let lines = BY_NAME.map(|(subject, before)| {
+        let now = cost(counts, Job::Read, subject, Way::Ours);
+        (subject, now, before)
+    });
+    let listed = lines
+        .map(|(subject, now, before)| format!("{} of {} ({subject})", shown(now), shown(before)));
+    let all = lines
+        .iter()
+        .all(|&(_, now, before)| now <= BY_NAME_SINCE * before);
+    format!(
+        "Limits in instructions, reading by name, at most {BY_NAME_SINCE} of what it took before messages were \
+         forwarded: {}. {}",
+        listed.join(", "),
+        kept(all),
+    )
+}
+
 /// What the times of reading and writing come to.
 pub fn summary(times: &[Ratio]) -> String {
     format!(
@@ -456,6 +524,45 @@ mod tests {
         for counts in [counts(59.0, 60.0), counts(50.0, 49.9)] {
             assert!(counts.ends_with("**Not all are kept.**"), "{counts}");
         }
+    }
+
+    #[test]
+    fn limits_of_forwarding_are_told_with_what_they_are_held_to() {
+        let counts = |ours: f64, straight: f64| {
+            forward_limits(&FORWARD.map(|(subject, _)| {
+                let costs = match subject {
+                    LAST_FREE => [(Way::Ours, ours), (Way::Straight, straight)],
+                    _ => [(Way::Ours, 150.0), (Way::Straight, 100.0)],
+                };
+                line(Job::Forward, subject, &costs)
+            }))
+        };
+        assert_eq!(
+            counts(1_400.0, 1_000.0),
+            "Limits in instructions, forwarding, and divided by straight Rust of 1.5: 150 of 150 and 1.50 \
+             (refused at the head), 150 of 900 and 1.50 (none in use), 150 of 900 and 1.50 (all old), 1,400 of \
+             1,400 and 1.40 (63 live, the last free). All are kept."
+        );
+        for counts in [counts(1_401.0, 1_000.0), counts(1_400.0, 933.0)] {
+            assert!(counts.ends_with("**Not all are kept.**"), "{counts}");
+        }
+    }
+
+    #[test]
+    fn limits_of_reading_by_name_are_told_with_what_they_are_held_to() {
+        let counts = |sam: f64| {
+            by_name_limits(&BY_NAME.map(|(subject, before)| {
+                let ours = if subject == SERVICES { sam } else { before };
+                line(Job::Read, subject, &[(Way::Ours, ours)])
+            }))
+        };
+        assert_eq!(
+            counts(21_467.0),
+            "Limits in instructions, reading by name, at most 1.01 of what it took before messages were \
+             forwarded: 1,695 of 1,695 (P1), 1,886 of 1,886 (P2), 2,366 of 2,366 (P3), 21,467 of 21,255 (SAM, 31 \
+             services). All are kept."
+        );
+        assert!(counts(21_468.0).ends_with("**Not all are kept.**"));
     }
 
     #[test]
