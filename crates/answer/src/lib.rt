@@ -39,7 +39,7 @@ impl Refusal {
     pub const OUTSIDE_LIMITS: u32 = 6;
     // A variable number that starts 1111.
     pub const BAD_VARIABLE: u32 = 7;
-    // No place for the next value, or the next bits.
+    // No place for the next value, the next bits, or a message that is forwarded.
     pub const NO_ROOM: u32 = 8;
     // Padding that is not zero, or octets left.
     pub const NOT_PADDING: u32 = 9;
