@@ -144,7 +144,7 @@ module _ (m : List ℕ) (t : ℕ) (rs : List Seen) (cap : ℕ) where
   abbrev fit : Bool
   fit = leb (length m) cap
 
-  pub together : stepOf (askOf m t cap) rs .answer ≡ forwardAnswer m t rs cap
+  together : stepOf (askOf m t cap) rs .answer ≡ forwardAnswer m t rs cap
   unfolding headOf forwardAnswer
   together =
       let under = answer-under t size fit rs in
@@ -155,7 +155,7 @@ module _ (m : List ℕ) (t : ℕ) (rs : List Seen) (cap : ℕ) where
       ∙ ap (answerIf (eqb (subtype m) 2) (refusalAt 11 0)) (under (leb 1 (hopCount m)) (refusalAt 40 30) _
       ∙ ap (answerIf (leb 1 (hopCount m)) (refusalAt 40 30)) (answer-by t size fit rs (messageId m))))))
 
-  pub kept-together : keptBy (askOf m t cap) rs ≡ seenAfter m t rs cap
+  kept-together : keptBy (askOf m t cap) rs ≡ seenAfter m t rs cap
   unfolding headOf
   kept-together =
       let under = list-under t size fit rs (messageId m) in
@@ -171,6 +171,14 @@ module _ (m : List ℕ) (t : ℕ) (rs : List Seen) (cap : ℕ) where
       by-seen : {zs : List Seen} (x : Answer) → zs ≡ by t size fit rs (messageId m) x → zs ≡ seenBy x m t rs
       by-seen (Accepted c) e = e
       by-seen (RefusedBy r) e = e
+
+  -- so for whoever asks as the message does
+  module _ {a : Ask} (e : a ≡ askOf m t cap) where
+    pub answer-is : {x : Answer} → x ≡ stepOf a rs .answer → x ≡ forwardAnswer m t rs cap
+    answer-is h = h ∙ ap (λ (k : Ask). stepOf k rs .answer) e ∙ together
+
+    pub list-is : {zs : List Seen} → zs ≡ keptBy a rs → zs ≡ seenAfter m t rs cap
+    list-is h = h ∙ ap (λ (k : Ask). keptBy k rs) e ∙ kept-together
 
   -- a message goes on only if it has a head, some hops, and an output for it
   pub emits : Emits (forwardAnswer m t rs cap) m cap

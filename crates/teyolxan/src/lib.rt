@@ -1,5 +1,5 @@
-// What a host written in Rust or C calls: check, read and write under a lent table, and load a table once and read through the state
-// that it was loaded into, on plain numbers and octet slices. A value is eight octets, little-endian, two's complement; octets after the
+// What a host written in Rust or C calls: check, read and write under a lent table, load a table once and read through the state
+// that it was loaded into, and forward a message, on plain numbers, octet slices and a list of records. A value is eight octets, little-endian, two's complement; octets after the
 // last whole eight of a value slice hold none.
 use loading::STATE;
 use seen::Seen;

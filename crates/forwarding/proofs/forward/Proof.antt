@@ -43,7 +43,7 @@ use Rattle.seen.specs.declared.Seen.{Seen}
 use Rattle.forward.specs.Forward.{forwardAnswer, seenAfter, outputBy, forwardOutput}
 use Rattle.forward.specs.Parts.{askOf, stepOf, keptBy, Emits}
 use Rattle.forward.specs.declared.Ask.{Ask}
-use Rattle.forward.proofs.Together.{together, kept-together, emits}
+use Rattle.forward.proofs.Together.{answer-is, list-is, emits}
 use Rattle.answer.proofs.Answer as An
 use Rattle.answer.proofs.Answer.Laws as An′
 use Rattle.seen.proofs.Seen as T
@@ -178,10 +178,6 @@ module _ {M : Type 1} (𝓤 : URA M) (H : Heap 𝓤) (A : Atoms 𝓤) (W : Given
     abbrev Put : Answer → Answer → List ℕ → Type 0
     Put r r′ zs = (r′ ≡ r) × (zs ≡ outputBy r (x .now) nz)
 
-    -- the answer is the step's
-    answer-is : {ask : Ask} {r : Answer} → ask ≡ askOf (x .now) at nz → r ≡ stepOf ask (y .now) .answer → r ≡ forwardAnswer (x .now) at (y .now) nz
-    answer-is e e′ = e′ ∙ ap (λ (k : Ask). stepOf k (y .now) .answer) e ∙ together (x .now) at (y .now) nz
-
     entry : Sq W (‵ (froom (sliceTy refO) k₁ 0) ∷ ‵ (fdies (sliceTy refO) k₁) ∷ ‵ (froom refO k₀ 0) ∷ ‵ (fdies refO k₀) ∷ ‵ (froom (sliceTy refS) l₉ 0) ∷ ‵ (fdies (sliceTy refS) l₉) ∷ ‵ (froom refS l₈ 0) ∷ ‵ (fdies refS l₈) ∷ ‵ (froom word l₇ 0) ∷ ‵ (fdies word l₇)
         ∷ ‵ (froom An′.mir l₆ 0) ∷ ‵ (fdies An′.mir l₆) ∷ ‵ (froom K′.mir l₅ 0) ∷ ‵ (fdies K′.mir l₅) ∷ ‵ (fat fullShare sliceO l₄ 0 mz) ∷ ‵ (fdies sliceO l₄) ∷ ‵ (fat fullShare sliceS l₃ 0 my) ∷ ‵ (fdies sliceS l₃)
         ∷ ‵ (fat fullShare half l₂ 0 (vint w32 at)) ∷ ‵ (fdies half l₂) ∷ ‵ (fat fullShare sliceB l₁ 0 mx) ∷ ‵ (fdies sliceB l₁) ∷ ‵ (froom An′.mir l₀ 0) ∷ ‵ (fdies An′.mir l₀)
@@ -213,7 +209,7 @@ module _ {M : Type 1} (𝓤 : URA M) (H : Heap 𝓤) (A : Atoms 𝓤) (W : Given
         assigns ! (agg ! (and-then ! (load ! (from ! (stop !)) (look ! 12 refl)) (and-then ! (load ! (from ! (fld ! refl (stop !))) (look-in ! 24 (sub ! 1 refl (whole !)))) (no-more !)))) (from ! (stop !)) (init ! 10 refl (tt, (tt, (record { fits = gz .0 }, tt)))) $
         move ! (4 ∷ []) $ use1 W (‵ OwnX ⊛ ‵ OwnX) (shr-slice-copy 𝓤 H A W (named 0) κ₀ u8 .twice x (mx ∷ [])) $ split ! $ move ! (5 ∷ []) $ split ! $ move ! (0 ∷ 10 ∷ 2 ∷ 7 ∷ []) $
         move ! (2 ∷ 3 ∷ []) $ join ! $ move ! (2 ∷ 0 ∷ []) $ join ! $ move ! (1 ∷ 0 ∷ []) $
-        use2 W (raw (Emit 𝓤 H A mem run .pre (to-emit r v₂))) (goes-emit r v₂ p₂ (subst (λ (k : Answer). Emits k (x .now) nz) (sym (answer-is e₁ (e₂ .0))) (emits (x .now) at (y .now) nz))) $
+        use2 W (raw (Emit 𝓤 H A mem run .pre (to-emit r v₂))) (goes-emit r v₂ p₂ (subst (λ (k : Answer). Emits k (x .now) nz) (sym (answer-is (x .now) at (y .now) nz e₁ (e₂ .0))) (emits (x .now) at (y .now) nz))) $
         calls-at ! fm (Emit 𝓤 H A mem run) known-emit (to-emit r v₂) (and-then ! (load ! (from ! (stop !)) (look ! 29 refl)) (and-then ! (load ! (from ! (stop !)) (look ! 19 refl)) (and-then ! (load ! (from ! (stop !)) (look ! 9 refl)) (no-more !)))) (λ v₃.
         use1 W (later (some (λ (r′ : Answer). ((‵ (flft κ₀ q₀) ⊛ (‵ (flft κ₂ q₂) ⊛ ‵ ftrue)) ⊛ ‵ (An.the-row .own r′ (v₃ ∷ []))) ⊛ raw (ensured 𝓤 H A emit.ended (emit.clauses 𝓤 H A mem run) (κ₀, (κ₂, tt)) (x, (r, (z, tt))) tt r′)))) (id⊢ 𝓤 _) $ await ! tt $ pick ! (λ r′.
         split ! $ move ! (1 ∷ []) $ use1 W (some (λ (zs : Unit {0} × (Unit {0} × (List ℕ × Unit {0}))). ‵ (lasts emit.ended (κ₀, (κ₂, tt)) (x, (r, (z, tt))) zs) ⊛ raw (fact 𝓤 (Put r r′ (zs .1 .1 .0))))) (id⊢ 𝓤 _) $ pick ! (λ zs.
@@ -224,8 +220,8 @@ module _ {M : Type 1} (𝓤 : URA M) (H : Heap 𝓤) (A : Atoms 𝓤) (W : Given
         move ! (18 ∷ 19 ∷ []) $ free1 ! $ move ! (16 ∷ 17 ∷ []) $ free1 ! $ move ! (14 ∷ 15 ∷ []) $ free1 ! $ move ! (12 ∷ 13 ∷ []) $ free1 ! $ free0 ! $
         -- [the result's; κ₀, κ₂ and true; the output's last; true; true; the message's; κ₁ and true; the list's last; true; true; the time's; true]
         move ! (1 ∷ []) $ split ! $ move ! (7 ∷ []) $ split ! $ move ! (0 ∷ 3 ∷ []) $ join ! $ move ! (2 ∷ 0 ∷ []) $ join ! $ keep ! (0 ∷ 6 ∷ 10 ∷ 7 ∷ 3 ∷ 2 ∷ []) $
-        by ! (exits r′ v₃ (ys .0) (zs .1 .1 .0) (e₃ .0 ∙ answer-is e₁ (e₂ .0)) (e₂ .1 ∙ ap (λ (k : Ask). keptBy k (y .now)) e₁ ∙ kept-together (x .now) at (y .now) nz)
-        (e₃ .1 ∙ ap (λ (k : Answer). outputBy k (x .now) nz) (answer-is e₁ (e₂ .0))) ly lz)))))))))))))))))
+        by ! (exits r′ v₃ (ys .0) (zs .1 .1 .0) (e₃ .0 ∙ answer-is (x .now) at (y .now) nz e₁ (e₂ .0)) (list-is (x .now) at (y .now) nz e₁ (e₂ .1))
+        (e₃ .1 ∙ ap (λ (k : Answer). outputBy k (x .now) nz) (answer-is (x .now) at (y .now) nz e₁ (e₂ .0))) ly lz)))))))))))))))))
 
   walk : (C : Calls 𝓤 H) (Λ : Loops 𝓤 H) → FmC 𝓤 H (W .laws) C → Triple 𝓤 (C #asked) (Asked 𝓤 H A mem run) → Triple 𝓤 (C #remember) (Rem 𝓤 H A mem run) → Triple 𝓤 (C #emit) (Emit 𝓤 H A mem run)
       → Room u8 (length (x .now)) → Room T.the-row (length (y .now)) → Room u8 nz

@@ -1,22 +1,17 @@
 -- `forwarding::forward_in` meets its contract.
-use Prim.Native.Nat.{ℕ}
 use mathlib.Core.List.{List}
-use mathlib.Core.Path.{_≡_, sym, _∙_, ap, ap₂, subst}
+use mathlib.Core.Path.{sym, _∙_, ap, ap₂, subst}
 use borrow.Author.Needs.{needs}
 use denote.Ref.{now}
 use lib.ListN.{length}
 use Rattle.answer.specs.declared.Answer.{Answer}
 use Rattle.seen.specs.declared.Seen.{Seen}
-use Rattle.forward.specs.Forward.{forwardAnswer, outputBy}
-use Rattle.forward.specs.Parts.{askOf, stepOf, keptBy, Emits}
-use Rattle.forward.specs.declared.Ask.{Ask}
-use Rattle.forward.proofs.Together.{together, kept-together, emits}
+use Rattle.forward.specs.Forward.{outputBy}
+use Rattle.forward.specs.Parts.{Emits}
+use Rattle.forward.proofs.Together.{answer-is, list-is, emits}
 use Rattle.forwarding.specs.declared.Forwarded.{Forwarded}
 use Rattle.forwarding.proofs.forward_in.Statement.{statement}
 use Rattle.forwarding.proofs.forward_in.Tie as tie
-
-answer-is : (m : List ℕ) (t n : ℕ) (rs : List Seen) {ask : Ask} {r : Answer} → ask ≡ askOf m t n → r ≡ stepOf ask rs .answer → r ≡ forwardAnswer m t rs n
-answer-is m t n rs e e′ = e′ ∙ ap (λ (k : Ask). stepOf k rs .answer) e ∙ together m t rs n
 
 emit-requires : tie.Need-emit-requires
 emit-requires c κs =
@@ -24,7 +19,7 @@ emit-requires c κs =
     let a = taken .before .before .before .before .args in
     let m = now (a .message) in
     let n = length (now (a .output)) in
-    subst (λ (k : Answer). Emits k m n) (sym (answer-is m (a .time) n (a .seen) (taken .before .asked .ensures) (ap (λ (k : Forwarded). k .answer) (taken .remember-in .ensures)))) (emits m (a .time) (a .seen) n)
+    subst (λ (k : Answer). Emits k m n) (sym (answer-is m (a .time) (a .seen) n (taken .before .asked .ensures) (ap (λ (k : Forwarded). k .answer) (taken .remember-in .ensures)))) (emits m (a .time) (a .seen) n)
 
 returns : tie.Need-returns
 returns c =
@@ -34,8 +29,8 @@ returns c =
     let n = length (now (a .output)) in
     let e = taken .before .asked .ensures in
     let kept = taken .remember-in .ensures in
-    let answer = answer-is m (a .time) n (a .seen) e (ap (λ (k : Forwarded). k .answer) kept) in
-    let list = ap (λ (k : Forwarded). k .seen) kept ∙ ap (λ (k : Ask). keptBy k (a .seen)) e ∙ kept-together m (a .time) (a .seen) n in (
+    let answer = answer-is m (a .time) (a .seen) n e (ap (λ (k : Forwarded). k .answer) kept) in
+    let list = list-is m (a .time) (a .seen) n e (ap (λ (k : Forwarded). k .seen) kept) in (
       ap₂ {C = Forwarded} (λ (x : Answer) (rs : List Seen). record { seen = rs; answer = x }) answer list,
       c .before .before .emit .ensures .1 ∙ ap (λ (k : Answer). outputBy k m n) answer,
     )
