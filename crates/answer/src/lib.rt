@@ -6,7 +6,7 @@ use bits::{BitPlace, OctetSize};
 
 // What an accepted call counts. Reading tells the values and the bits of the root, which is the place after it; writing
 // tells the octets; a check tells nothing, so that each count is 0.
-#[derive(Drop)]
+#[derive(Clone, Copy)]
 pub struct Counts {
     pub values: usize,
     pub bits: BitPlace,
@@ -15,13 +15,13 @@ pub struct Counts {
 
 // A refusal: its number, and its place, counted in what the number asks for (bits of a message, values of a list, octets of a
 // table).
-#[derive(Drop)]
+#[derive(Clone, Copy)]
 pub struct Refusal {
     pub number: u32,
     pub place: usize,
 }
 
-#[derive(Drop)]
+#[derive(Clone, Copy)]
 pub enum Answer {
     Accepted(Counts),
     Refused(Refusal),

@@ -4,11 +4,11 @@ ghost use Rattle.std.specs.Prelude.{◌≡◌, ◌+◌, ◌-◌, ◌*◌, ◌/�
 ghost use Rattle.bits.specs.Access.{most_octets};
 
 // A place in a message, counted in bits from its first (document 01: place).
-#[derive(Drop)]
+#[derive(Clone, Copy)]
 pub struct BitPlace(pub usize);
 
 // A size in octets.
-#[derive(Drop)]
+#[derive(Clone, Copy)]
 pub struct OctetSize(pub usize);
 
 impl BitPlace {
@@ -73,14 +73,14 @@ impl OctetSize {
 }
 
 // What fetching bits gives: their number and the place after them, or that the message ends before.
-#[derive(Drop)]
+#[derive(Clone, Copy)]
 pub enum Fetched {
     Bits(u32, BitPlace),
     Short,
 }
 
 // What storing bits gives: the place after them, or that the output ends before.
-#[derive(Drop)]
+#[derive(Clone, Copy)]
 pub enum Stored {
     Next(BitPlace),
     Full,

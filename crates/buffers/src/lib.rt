@@ -10,7 +10,7 @@ pub const INPUT: usize = 65536;
 pub const OUTPUT: usize = 65536;
 
 // What a program holds: the octets read and not used, which are those from `from` up to `end`; the lines not written, up to `lines`.
-#[derive(Drop)]
+#[derive(Clone, Copy)]
 pub struct State {
     pub from: usize,
     pub end: usize,
@@ -18,7 +18,7 @@ pub struct State {
 }
 
 // What a turn leads to: the next one, the end of the input, a stop before it, or an output that takes no more.
-#[derive(Drop)]
+#[derive(Clone, Copy)]
 pub enum Led {
     Next(State),
     End(State),

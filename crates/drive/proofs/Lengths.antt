@@ -15,8 +15,8 @@ use Rattle.bits.proofs.Bits.{length-pack}
 use Rattle.lines.specs.Text.{decimal, number_line, placed_line, refused_line}
 use Rattle.lines.proofs.Decimal.{few-digits}
 use Rattle.house.specs.House.{kind_line}
-use Rattle.hex.specs.Hex.{hex}
-use Rattle.hex.proofs.Digits.{length-hex}
+use Rattle.hexadecimal.specs.Hex.{hex}
+use Rattle.hexadecimal.proofs.Digits.{length-hex}
 use Rattle.seen.specs.declared.Seen.{Seen}
 use Rattle.seen.specs.Records.{holds, first_free}
 use Rattle.forward.specs.Forward.{subtype, version, message_id, hop_count, lowered, forward_answer}

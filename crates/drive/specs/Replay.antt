@@ -7,7 +7,7 @@ use Rattle.answer.specs.declared.Answer.TheVariants.{Accepted, Refused}
 use Rattle.lines.specs.Text.{refused_line}
 use Rattle.machine.specs.Machine.{Machine}
 use Rattle.house.specs.House.{first_frame, kind_line}
-use Rattle.hex.specs.Hex.{hex}
+use Rattle.hexadecimal.specs.Hex.{hex}
 use Rattle.seen.specs.declared.Seen.{Seen}
 use Rattle.seen.specs.Records.{blank}
 use Rattle.forward.specs.Forward.{lowered, forward_answer, seen_after}

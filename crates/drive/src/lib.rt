@@ -26,7 +26,7 @@ pub fn empty_list() -> [Seen; 64]
 }
 
 // The list after a frame, and the end of its line.
-#[derive(Drop)]
+#[derive(Clone, Copy)]
 pub struct Played {
     pub seen: [Seen; 64],
     pub end: usize,
@@ -39,7 +39,7 @@ fn put_step(out: &mut [u8], at: usize, answer: Answer, count: usize) -> usize
 {
     match answer {
         Answer::Accepted(_) => {
-            let end = hex::put_hex(out, at, count);
+            let end = hexadecimal::put_hex(out, at, count);
             lines::put_text(out, end, b"\n")
         }
         Answer::Refused(refusal) => lines::put_refusal(out, at, refusal),

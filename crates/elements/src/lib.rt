@@ -3,14 +3,14 @@ ghost use Rattle.std.specs.Prelude.{◌≡◌};
 ghost use Rattle.elements.specs.Elements.{element_home};
 
 // An element ID and its home: 0 N-Header, 1 T-Header, 2 service info.
-#[derive(Drop)]
+#[derive(Clone, Copy)]
 pub struct Known {
     pub id: u8,
     pub home: u8,
 }
 
 // Whether an ID is known at the home asked about, at another home, or at none.
-#[derive(Drop)]
+#[derive(Clone, Copy)]
 pub enum Home {
     Here,
     Elsewhere,

@@ -12,14 +12,14 @@ use bits::{BitPlace, OctetSize};
 use seen::{Seen, Want};
 
 // What a message asks of the list: nothing, for it is refused before; or whether it may go on under its ID.
-#[derive(Drop)]
+#[derive(Clone, Copy)]
 pub enum Head {
     Refused(Refusal),
     Id(u32),
 }
 
 // What a call asks of the list: the head of its message, the time, the message's octets, and whether the output has room for them.
-#[derive(Drop)]
+#[derive(Clone, Copy)]
 pub struct Ask {
     pub head: Head,
     pub time: u32,
@@ -28,7 +28,7 @@ pub struct Ask {
 }
 
 // What a call does: its answer, and the index of the record that it stores into. An index past the end is none.
-#[derive(Drop)]
+#[derive(Clone, Copy)]
 pub struct Step {
     pub at: usize,
     pub answer: Answer,

@@ -37,7 +37,7 @@ pub fn forward(message: &[u8], time: u32, seen: &mut [Seen], output: &mut [u8]) 
 }
 
 // A list of 64 records and the answer of a call on it.
-#[derive(Drop)]
+#[derive(Clone, Copy)]
 pub struct Forwarded {
     pub seen: [Seen; 64],
     pub answer: Answer,

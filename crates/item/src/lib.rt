@@ -10,7 +10,7 @@ use answer::Refusal;
 use bits::BitPlace;
 
 // What reading an item gives: its value and the place after it, or the refusal.
-#[derive(Drop)]
+#[derive(Clone, Copy)]
 pub enum Item {
     Value(i64, BitPlace),
     Bad(Refusal),
@@ -18,7 +18,7 @@ pub enum Item {
 
 // What writing an item gives: the place after it, or the number of the refusal, whose place, the index of its value, the caller
 // knows.
-#[derive(Drop)]
+#[derive(Clone, Copy)]
 pub enum Put {
     Next(BitPlace),
     Unfit(u32),
@@ -26,7 +26,7 @@ pub enum Put {
 
 // The form of an item of whole octets, which has ones and a zero in front: its bits in all, what its leading bits are worth,
 // and what is added to the others in a variable number.
-#[derive(Drop)]
+#[derive(Clone, Copy)]
 pub struct Form {
     pub bits: u32,
     pub leading: u32,

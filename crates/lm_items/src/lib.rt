@@ -6,7 +6,7 @@ ghost use Rattle.lm_items.specs.Asked.{following, rank, is_content, least};
 
 // What follows in a message: its N-Header; the original N-Header, which one with subtype 1 holds; the T-Header; the user data;
 // nothing.
-#[derive(Drop)]
+#[derive(Clone, Copy)]
 pub enum Section {
     Network,
     Original,
@@ -16,7 +16,7 @@ pub enum Section {
 }
 
 // What a section is: an N-Header of subtype 0, 1 or 2, a T-Header with feature selector 0 or 1, user data.
-#[derive(Drop)]
+#[derive(Clone, Copy)]
 pub enum Kind {
     NullNetworking,
     InternalForwarding,

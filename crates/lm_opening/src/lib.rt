@@ -13,7 +13,7 @@ use lm_items::{Kind, Section};
 use read_steps::{Cursor, Step};
 
 // What a section is, and whether it has extensions; or the refusal.
-#[derive(Drop)]
+#[derive(Clone, Copy)]
 pub enum Opened {
     Part(Kind, bool, Cursor),
     Refused(Refusal),

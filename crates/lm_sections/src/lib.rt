@@ -12,7 +12,7 @@ use lm_opening::Opened;
 use read_steps::{Cursor, Step};
 
 // What follows a section that was read; or the refusal.
-#[derive(Drop)]
+#[derive(Clone, Copy)]
 pub enum Passed {
     Next(Section, Cursor),
     Refused(Refusal),

@@ -11,7 +11,7 @@ use lm_items::Kind;
 use read_steps::{Cursor, Step};
 
 // How many strings are left to be read; or the refusal.
-#[derive(Drop)]
+#[derive(Clone, Copy)]
 pub enum Counted {
     Strings(usize, Cursor),
     Refused(Refusal),

@@ -4,7 +4,7 @@ ghost use Rattle.std.specs.Prelude.{◌+◌, ◌≡◌};
 ghost use Rattle.machine.specs.Counts.{counted, nothing, after_unit};
 
 // What octets begin with: a whole unit of a size, the beginning of one, or none whatever follows.
-#[derive(Drop)]
+#[derive(Clone, Copy)]
 pub enum Front {
     Whole(usize),
     Part,
@@ -12,7 +12,7 @@ pub enum Front {
 }
 
 // How many octets and units of the input came before.
-#[derive(Drop)]
+#[derive(Clone, Copy)]
 pub struct Before {
     pub octets: u64,
     pub units: u64,

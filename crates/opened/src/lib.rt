@@ -8,14 +8,14 @@ use answer::{Answer, Refusal};
 use bits::{BitPlace, Fetched, OctetSize};
 
 // One that `open` made holds at most 65,535 octets. Taking bits from any other is as if its octets were opened anew.
-#[derive(Drop)]
+#[derive(Clone, Copy)]
 pub struct Opened<'a> {
     pub message: &'a [u8],
     pub place: BitPlace,
 }
 
 // What taking bits gives: their number and the place after them, or the refusal, whose place is the one that stays.
-#[derive(Drop)]
+#[derive(Clone, Copy)]
 pub enum Taken {
     Number(u32, BitPlace),
     Refused(Refusal),

@@ -7,14 +7,14 @@ ghost use Rattle.pcap.specs.Pcap.{spelled, word, headed, order_of, file_front, r
 use machine::Front;
 
 // The octet order of a file's numbers.
-#[derive(Drop)]
+#[derive(Clone, Copy)]
 pub enum Order {
     Little,
     Big,
 }
 
 // What a whole record is for: cut short when it was captured, an LM, or anything else.
-#[derive(Drop)]
+#[derive(Clone, Copy)]
 pub enum Record {
     Cut,
     Lm,

@@ -9,7 +9,7 @@ use machine::{Before, Front};
 use stages::Stage;
 
 // Which program runs, and how far it is.
-#[derive(Drop)]
+#[derive(Clone, Copy)]
 pub enum Progress {
     Bench(Before),
     Capture(Stage),

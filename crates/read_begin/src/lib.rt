@@ -14,7 +14,7 @@ use read_steps::{Cursor, Step};
 use row::Row;
 
 // Where choices lead: the row at an offset, which is left to be read; or the refusal.
-#[derive(Drop)]
+#[derive(Clone, Copy)]
 pub enum Chosen {
     Row(usize, Cursor),
     Refused(Refusal),
@@ -22,7 +22,7 @@ pub enum Chosen {
 
 // What a row's own items leave to be read: nothing, a run of the row at an offset, numbers of the number row at an offset, the
 // fields of the record that a mask marks as present (the first field on top); or the refusal.
-#[derive(Drop)]
+#[derive(Clone, Copy)]
 pub enum Begun {
     Done(Cursor),
     Run(usize, usize, Cursor),

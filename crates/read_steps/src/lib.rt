@@ -14,14 +14,14 @@ use bits::{BitPlace, OctetSize};
 use item::Item;
 
 // Where a reader stands: the next bit of the message, and how many values were read.
-#[derive(Drop)]
+#[derive(Clone, Copy)]
 pub struct Cursor {
     pub place: BitPlace,
     pub count: usize,
 }
 
 // What reading items gives: the cursor after them, or the refusal.
-#[derive(Drop)]
+#[derive(Clone, Copy)]
 pub enum Step {
     Past(Cursor),
     Refused(Refusal),

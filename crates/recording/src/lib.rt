@@ -12,7 +12,7 @@ use machine::Front;
 use seen::Seen;
 
 // The list after the whole frames of a part, how many octets they take, and the end of their lines.
-#[derive(Drop)]
+#[derive(Clone, Copy)]
 struct Frames {
     seen: [Seen; 64],
     taken: usize,
@@ -42,7 +42,7 @@ fn play_frames(octets: &[u8], start: [Seen; 64], text: &mut [u8]) -> Frames
 }
 
 // The list after a part of a recording, and the answer.
-#[derive(Drop)]
+#[derive(Clone, Copy)]
 pub struct Replayed {
     pub seen: [Seen; 64],
     pub answer: Answer,

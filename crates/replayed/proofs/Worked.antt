@@ -5,7 +5,7 @@ use Rattle.bits.specs.Bits.{number_of, bits_of, unpack, pack}
 use Rattle.lines.specs.Text.{decimal_within, decimal, number_line, placed_line, refused_line}
 use Rattle.machine.specs.Machine.{Gives, unit, end, given}
 use Rattle.house.specs.House.{first_frame}
-use Rattle.hex.specs.Hex.{hex}
+use Rattle.hexadecimal.specs.Hex.{hex}
 use Rattle.forward.specs.Forward.{subtype, version, message_id, hop_count, forward_answer, lowered}
 use Rattle.drive.specs.Replay.{frame_line, list_after, replay, empty_list}
 use Rattle.drive.proofs.Laws.{replay_laws}

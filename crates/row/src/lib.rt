@@ -8,7 +8,7 @@ ghost use Rattle.row.specs.Rows.{within};
 ghost use Rattle.row.specs.Kinds.{length_of, has_count, least_count, most_count, count_of, least_length, reference_count, reference_step, may_reserve, flag_count, least_below};
 
 // A row (document 01's term); no value of it is made.
-#[derive(Drop)]
+#[derive(Clone, Copy)]
 pub struct Row;
 
 impl Row {

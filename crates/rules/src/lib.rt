@@ -11,14 +11,14 @@ use answer::Refusal;
 use row::Row;
 
 // What the test of a row finds: its length and its depth, or the number of the first part that breaks a rule.
-#[derive(Drop)]
+#[derive(Clone, Copy)]
 pub enum RowTest {
     Sound(usize, u8),
     Broken(u32),
 }
 
 // The depth of the deepest row referred to, or that a reference is to no row passed.
-#[derive(Drop)]
+#[derive(Clone, Copy)]
 enum Below {
     Depth(u8),
     NoRow,

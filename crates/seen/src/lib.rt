@@ -7,7 +7,7 @@ ghost use Rattle.seen.specs.Search.{any_record, wanted_by};
 // A record: an ID, the time at which it was stored, in milliseconds, and whether the record is in use. It lies in memory as C lays
 // it out, so that a host lends a list of its own.
 #[repr(C)]
-#[derive(Drop)]
+#[derive(Clone, Copy)]
 pub struct Seen {
     pub id: u32,
     pub time: u32,
@@ -32,7 +32,7 @@ impl Seen {
 
 // What a search is for, at a time: where `held` is true, a live record with the ID; else, where `free` is true, a record that is not
 // live; else any record, so that the search ends at once.
-#[derive(Drop)]
+#[derive(Clone, Copy)]
 pub struct Want {
     pub id: u32,
     pub time: u32,

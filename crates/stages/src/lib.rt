@@ -9,7 +9,7 @@ use machine::{Before, Front};
 use pcap::Order;
 
 // Where a reader is in a file: before the file's header, or at a record, by the file's order and what came before.
-#[derive(Drop)]
+#[derive(Clone, Copy)]
 pub enum Stage {
     Opening,
     Records(Order, Before),

@@ -11,7 +11,7 @@ use row::Row;
 use rules::RowTest;
 
 // What the pass over a table finds: how many rows there are and the offset of the last, the root, or the refusal.
-#[derive(Drop)]
+#[derive(Clone, Copy)]
 pub enum Found {
     Rows(usize, usize),
     Breaks(Refusal),

@@ -9,7 +9,7 @@ ghost use Rattle.tasks.specs.Tasks.{front_of, stopped_lines, ended_lines};
 use machine::Front;
 use programs::Progress;
 
-#[derive(Drop)]
+#[derive(Clone, Copy)]
 pub enum Task {
     Read(Progress),
     Replay,

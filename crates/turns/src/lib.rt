@@ -9,7 +9,7 @@ use machine::Front;
 use programs::Progress;
 
 // What a turn led to, and how far the program then is.
-#[derive(Drop)]
+#[derive(Clone, Copy)]
 pub struct Outcome {
     pub led: Led,
     pub progress: Progress,

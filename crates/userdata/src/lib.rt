@@ -10,14 +10,14 @@ use bits::{BitPlace, OctetSize};
 use read_steps::{Cursor, Step};
 
 // A part of a message, in octets.
-#[derive(Drop)]
+#[derive(Clone, Copy)]
 pub struct Span {
     pub start: OctetSize,
     pub length: OctetSize,
 }
 
 // Where the user data stands, or the refusal.
-#[derive(Drop)]
+#[derive(Clone, Copy)]
 pub enum Found {
     At(Span),
     Refused(Refusal),

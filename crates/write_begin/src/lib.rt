@@ -15,7 +15,7 @@ use row::Row;
 use write_steps::{Cursor, Given, Step};
 
 // Where choices lead: the row at an offset, which is left to be written; or the refusal.
-#[derive(Drop)]
+#[derive(Clone, Copy)]
 pub enum Chosen {
     Row(usize, Cursor),
     Refused(Refusal),
@@ -23,7 +23,7 @@ pub enum Chosen {
 
 // What a row's own items leave to be written: nothing, a run of the row at an offset, numbers of the number row at an offset, the
 // fields of the record that a mask marks as present (the first field on top); or the refusal.
-#[derive(Drop)]
+#[derive(Clone, Copy)]
 pub enum Begun {
     Done(Cursor),
     Run(usize, usize, Cursor),

@@ -12,7 +12,7 @@ use bits::{BitPlace, Stored};
 use item::{Form, Put};
 
 // A value's distance above the lowest, where it is at most a span.
-#[derive(Drop)]
+#[derive(Clone, Copy)]
 enum Offset {
     Within(u32),
     Outside,

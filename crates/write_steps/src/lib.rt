@@ -13,14 +13,14 @@ use bits::{BitPlace, OctetSize};
 use item::Put;
 
 // Where a writer stands: the next bit of the output, and the index of the next value.
-#[derive(Drop)]
+#[derive(Clone, Copy)]
 pub struct Cursor {
     pub place: BitPlace,
     pub index: usize,
 }
 
 // What writing items gives: the cursor after them, or the refusal, whose place is the index of its value.
-#[derive(Drop)]
+#[derive(Clone, Copy)]
 pub enum Step {
     Past(Cursor),
     Refused(Refusal),
@@ -43,7 +43,7 @@ impl Step {
 }
 
 // The next value of the list and the index after it, or that the list ends before it.
-#[derive(Drop)]
+#[derive(Clone, Copy)]
 pub enum Given {
     Value(i64, usize),
     Missing,

@@ -1,4 +1,4 @@
--- `hex::put_hex` meets its contract. The invariant: the digits of the first octets are put, and the octets that are left stand where they stood.
+-- `hexadecimal::put_hex` meets its contract. The invariant: the digits of the first octets are put, and the octets that are left stand where they stood.
 use Prim.Native.Nat.{◌+◌, ◌-◌, ◌*◌, ◌≤◌}
 use mathlib.Core.Path.{◌≡◌, refl}
 use native.Mathlib.Omega.{arith}
@@ -8,10 +8,10 @@ use lib.ListN.{length, get_or, take, drop, length-set, length-take, length-drop}
 use lib.Seq.{take_all, length-take-le}
 use Rattle.lines.specs.Text.{Appended}
 use Rattle.lines.proofs.Texts.{put-nothing}
-use Rattle.hex.specs.Hex.{hex}
-use Rattle.hex.proofs.Digits.{put-digits, next_octet, left_behind}
-use Rattle.hex.proofs.put_hex.Statement.{statement}
-use Rattle.hex.proofs.put_hex.Tie as tie
+use Rattle.hexadecimal.specs.Hex.{hex}
+use Rattle.hexadecimal.proofs.Digits.{put-digits, next_octet, left_behind}
+use Rattle.hexadecimal.proofs.put_hex.Statement.{statement}
+use Rattle.hexadecimal.proofs.put_hex.Tie as tie
 
 abbrev invariant-loop : tie.invariant-loop
 invariant-loop out₀ at count i₀ out i =

@@ -1,7 +1,7 @@
 // Octets in hexadecimal, two upper-case digits each (document 02, ticket 8).
 ghost use Rattle.std.specs.Prelude.{◌+◌, ◌*◌, ◌<◌, ◌≤◌, ◌≡◌, length, take, drop};
 ghost use Rattle.lines.specs.Text.{Appended};
-ghost use Rattle.hex.specs.Hex.{hex_digit, hex};
+ghost use Rattle.hexadecimal.specs.Hex.{hex_digit, hex};
 
 // A digit.
 fn digit(number: u8) -> u8

@@ -9,7 +9,7 @@ use lib.ListN.{length, get_or, take, drop, set, length-set}
 use lib.Seq.{take-suc, get_or-take, get_or-drop, drop-drop, drop-set-lt}
 use Rattle.lines.specs.Text.{Appended}
 use Rattle.lines.proofs.Texts.{put_both, put-octet}
-use Rattle.hex.specs.Hex.{hex_digit, hex}
+use Rattle.hexadecimal.specs.Hex.{hex_digit, hex}
 
 hex-append : (xs ys : List ℕ) → hex (xs ++ ys) ≡ hex xs ++ hex ys
 unfolding hex
