@@ -1,5 +1,7 @@
 // Bits of a message fetched as a number, up to 32 of them, and up to 32 stored. Both take whole octets, one, two or five at a
 // time, and no step for each bit.
+#![tactic(auto)]
+
 ghost use Rattle.std.specs.Prelude.{◌≡◌, ◌+◌, ◌-◌, ◌*◌, ◌%◌, ◌<◌, ◌≤◌, ◌^◌, leb, length, get_or, take, drop};
 ghost use Rattle.bits.specs.Bits.{number_of, bits_of, unpack};
 ghost use Rattle.bits.specs.Access.{most_octets, fetched, stored, overwritten};

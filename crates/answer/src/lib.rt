@@ -1,4 +1,6 @@
 // What a call answers: accepted with its counts, or refused with a number and a place (document 01, "Refusal numbers").
+#![tactic(auto)]
+
 ghost use Rattle.std.specs.Prelude.{◌≡◌};
 ghost use Rattle.answer.specs.Numbers.{refusal_at, accepted, refused};
 

@@ -1,4 +1,6 @@
 // The bench program (document 01): frames from standard input, a line for each on standard output, and the count of frames last.
+#![tactic(auto)]
+
 
 fn main() {
     let mut input = [0u8; buffers::INPUT];

@@ -1,5 +1,7 @@
 // Places and sizes: bits of a message, counted from the top bit of each octet, and octets. Definitions of what bits are, and of
 // what fetching and storing them means, are in specs/.
+#![tactic(auto)]
+
 ghost use Rattle.std.specs.Prelude.{◌≡◌, ◌+◌, ◌-◌, ◌*◌, ◌/◌, ◌%◌, ◌<◌, ◌≤◌, max};
 ghost use Rattle.bits.specs.Access.{most_octets};
 

@@ -1,4 +1,6 @@
 // Bits of a message fetched one at a time: the contract of `access::fetch` with another body, for the benchmark alone.
+#![tactic(auto)]
+
 ghost use Rattle.std.specs.Prelude.{◌≡◌, ◌+◌, ◌*◌, ◌<◌, ◌≤◌, length, take, drop};
 ghost use Rattle.bits.specs.Bits.{number_of, unpack};
 ghost use Rattle.bits.specs.Access.{most_octets, fetched};

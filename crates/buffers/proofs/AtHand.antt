@@ -46,5 +46,5 @@ read_behind s input moved part count held whole kept first lent back told =
     let fits : count ≤ length part = omega (arith, simp (length-take, length-drop) at told) in
     let came = length-take-le count part fits in (
       held-read _ _ count (record { ordered = omega arith; within = omega (arith, held.ordered, held.within); room = omega arith }),
-      rw (many, came) (refl, rw first (front-and_part (at_hand s input) part _ (s.end - s.from) count many fits)),
+      rw (many, came) (refl, rw first (front-and_part (at_hand s input) part (refilled s moved part) (s.end - s.from) count many fits)),
     )

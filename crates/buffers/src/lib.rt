@@ -1,5 +1,7 @@
 // The buffers of a program that takes units from its input: the input is read as a stream into one that holds any unit whole, and lines
 // stand in the other until they are written. Lines are written before the program waits for input.
+#![tactic(auto)]
+
 ghost use Rattle.std.specs.Prelude.{◌+◌, ◌-◌, ◌<◌, ◌≤◌, ◌≡◌, length, take, drop};
 ghost use Rattle.buffers.specs.Held.{Held, HeldAfter, held_behind};
 ghost use Rattle.buffers.specs.InputOutput.{Wrote, Read, after_write, after_read};

@@ -2,6 +2,8 @@
 // The comment above a table lists its rows: offset, what the row is, its kind and numbers, where (n) is a reference to the
 // row at n. The string has a row a line, in that order; the T-Header's 128 branches take eight lines more.
 // The first five rows are the same in all three. specs/Tables.antt has the octets as lists, specs/Layout.antt the rows.
+#![tactic(auto)]
+
 ghost use Rattle.std.specs.Prelude.{◌≡◌};
 ghost use Rattle.builtin.specs.Tables.{lm, sam, srm};
 

@@ -1,5 +1,7 @@
 // The capture program (document 02, ticket 6): a classic capture file from standard input, a line for each LM and each cut record on
 // standard output, and the count of records last.
+#![tactic(auto)]
+
 
 fn main() {
     let mut input = [0u8; buffers::INPUT];

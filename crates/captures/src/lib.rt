@@ -1,4 +1,6 @@
 // The capture program (document 02, ticket 6): the line of each record of a capture file.
+#![tactic(auto)]
+
 ghost use Rattle.std.specs.Prelude.{◌+◌, ◌*◌, ◌≤◌, length};
 ghost use Rattle.lines.specs.Text.{Appended};
 ghost use Rattle.stages.specs.Stages.{header_of};

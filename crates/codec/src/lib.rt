@@ -1,5 +1,7 @@
 // Reading and writing under a lent table: the check, the root, the padding, and zeros after the answer. No call here asks
 // anything of its arguments.
+#![tactic(auto)]
+
 ghost use Rattle.std.specs.Prelude.{◌≡◌, ◌/◌, length};
 ghost use Rattle.values.specs.Values.{values_in};
 ghost use Rattle.encoding.specs.Reading.{read_outcome};

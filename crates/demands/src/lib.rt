@@ -1,1 +1,3 @@
 // The crate gathers what is proved of the demands, in one record. Nothing runs here.
+#![tactic(auto)]
+

@@ -1,5 +1,7 @@
 // Replaying a drive (document 02, ticket 8): house frames of kind 16, each the time and a message that was heard, are forwarded one after
 // another with one list of seen records, and each has a line of text.
+#![tactic(auto)]
+
 ghost use Rattle.std.specs.Prelude.{◌+◌, ◌*◌, ◌≤◌, ◌≡◌, length, take, drop};
 ghost use Rattle.lines.specs.Text.{Appended};
 ghost use Rattle.drive.specs.Replay.{step_line, heard_line, heard_after, bad_frame, frame_line, list_after, left_line, empty_list};

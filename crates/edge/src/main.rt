@@ -1,5 +1,7 @@
 // Document 01's messages P4, P5 and P6: variable numbers and lengths on the edges of their forms. Each line has a message's
 // octets and its value, with the octets that the value is written as, or `no` and the refusal's number.
+#![tactic(auto)]
+
 ghost use Rattle.std.specs.Prelude.{◌<◌};
 
 use bits::{BitPlace, OctetSize};

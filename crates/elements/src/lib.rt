@@ -1,4 +1,6 @@
 // Known extension elements (document 01, "LM, SAM and SRM"): the constant list of 16, searched for where an ID belongs.
+#![tactic(auto)]
+
 ghost use Rattle.std.specs.Prelude.{◌≡◌};
 ghost use Rattle.elements.specs.Elements.{element_home};
 

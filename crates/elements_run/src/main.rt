@@ -1,4 +1,6 @@
 // Prints what `elements::element` answers for every ID from 0 to 260 at homes 0 to 3 and 65,535: a line `ID HOME answer`.
+#![tactic(auto)]
+
 use elements::Home;
 
 fn show(id: u32, home: u32) {

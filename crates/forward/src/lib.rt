@@ -1,6 +1,8 @@
 // The tests of a forwarding step and its output (document 02, ticket 7), apart from the list of seen records: what a message and an
 // output ask of the list, what the list's answer decides, and the octets that go out. Every test of the step is here, in the ticket's
 // order, but that of a record, which is in seen; crate forwarding asks the list and stores into it.
+#![tactic(auto)]
+
 ghost use Rattle.std.specs.Prelude.{◌≡◌, ◌≤◌, ◌<◌, length};
 ghost use Rattle.answer.specs.Numbers.{refusal_at};
 ghost use Rattle.items.specs.Slices.{filled};

@@ -1,5 +1,7 @@
 // The forwarding step over a lent list of seen records (document 02, ticket 7), and over a list of 64 that is handed over and given
 // back. The functions over the lent list are straight lines: every test is in the functions that they call.
+#![tactic(auto)]
+
 ghost use Rattle.std.specs.Prelude.{◌≡◌, length};
 ghost use Rattle.forward.specs.Forward.{forward_answer, seen_after, forward_output};
 ghost use Rattle.forward.specs.Parts.{step_of, kept_by};

@@ -1,5 +1,7 @@
 // The bench program (document 01, "The bench program"): its frames, their lines and its last lines. A frame is the length of the whole
 // of it and a kind, two octets each, little-endian, and then a message.
+#![tactic(auto)]
+
 ghost use Rattle.std.specs.Prelude.{◌+◌, ◌*◌, ◌<◌, ◌≤◌, ◌≡◌, length};
 ghost use Rattle.machine.specs.declared.Front.TheVariants.{Part};
 ghost use Rattle.lines.specs.Text.{Appended};

@@ -1,6 +1,8 @@
 // The tests by which a row of a loaded state is read, whatever octets the state holds (encoding's specs/Guarded.antt): 4,096 octets of
 // rows, and behind them the depth of each row at half its offset. They look at no more than a row and those that it refers to. A slice
 // of rows that is longer than any table is a state; the rows of a table that passed the check are not tested (specs/Readable.antt).
+#![tactic(auto)]
+
 ghost use Rattle.std.specs.Prelude.{true, ◌≡◌, ◌+◌, ◌≤◌, ◌<◌, length};
 ghost use Rattle.octets.specs.Numbers.{u16};
 ghost use Rattle.answer.specs.Numbers.{no_branch, refusal_at};

@@ -1,4 +1,6 @@
 // Octets in hexadecimal, two upper-case digits each (document 02, ticket 8).
+#![tactic(auto)]
+
 ghost use Rattle.std.specs.Prelude.{◌+◌, ◌*◌, ◌<◌, ◌≤◌, ◌≡◌, length, take, drop};
 ghost use Rattle.lines.specs.Text.{Appended};
 ghost use Rattle.hexadecimal.specs.Hex.{hex_digit, hex};

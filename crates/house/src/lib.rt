@@ -1,5 +1,7 @@
 // House frames (document 01, "The bench program"), for every program that takes them: the length of the whole frame and its kind, two
 // octets each, little-endian, and then what the kind says.
+#![tactic(auto)]
+
 ghost use Rattle.std.specs.Prelude.{ℕ, ◌+◌, ◌<◌, ◌≤◌, ◌≡◌, length};
 ghost use Rattle.machine.specs.declared.Front.TheVariants.{Whole, Part};
 ghost use Rattle.lines.specs.Text.{Appended};

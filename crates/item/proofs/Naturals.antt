@@ -15,7 +15,7 @@ use Rattle.item.specs.Code.{natural}
 
 -- a value that fits 64 bits is what the code holds
 pub held : (z : ℤ) → mag z < 2 ^ hbits w64 → to_z w64 (of_z w64 z) ≡ z
-held z h = to_z-of_z (record { sfits = h })
+held z h = to_z-of_z {w = w64} (record { sfits = h })
 
 -- a negative value counts nothing
 pub negative-natural : (z w : ℤ) → w ≡ z → lt_z w (pos 0) ≡ true → 0 ≡ natural z

@@ -1,5 +1,7 @@
 // One value's bits: a number, a variable number, a length, the index of a choice (document 01, "Bits and values"). What reading
 // and writing such an item share; reading is in read_item, writing in write_item.
+#![tactic(auto)]
+
 ghost use Rattle.std.specs.Prelude.{◌≡◌, false, suc, ◌+◌, ◌*◌, ◌≤◌, length, get_or};
 ghost use Rattle.bits.specs.Bits.{width};
 ghost use Rattle.item.specs.Code.{base, natural};

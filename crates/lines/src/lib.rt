@@ -1,6 +1,8 @@
 // Text of the programs' lines, put into a lent slice from an index on: numbers in decimal, values with a sign, and the line of an
 // answer. Every function gives the index after its text; the octets before it stay, and those behind it mean nothing.
 // A number takes at most 20 octets, and a value with its space and sign 22.
+#![tactic(auto)]
+
 ghost use Rattle.std.specs.Prelude.{◌+◌, ◌*◌, ◌<◌, ◌≤◌, [], ◌∷◌, ◌≡◌, nat_abs, length, take};
 ghost use Rattle.lines.specs.Text.{Appended, decimal, number_line, placed_line, signed, listed, accepted_line, refused_line, answer_line, last_line};
 

@@ -1,4 +1,6 @@
 // The fields of an LM's sections, by their kind (ISO 16460, clause 5).
+#![tactic(auto)]
+
 ghost use Rattle.std.specs.Prelude.{◌≡◌, ◌%◌, ◌≤◌, length};
 ghost use Rattle.bits.specs.Access.{most_octets};
 ghost use Rattle.items.specs.Items.{◌then◌, times};

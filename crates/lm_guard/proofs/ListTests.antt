@@ -27,7 +27,7 @@ use Rattle.lm_guard.specs.Tested.{lm_list_tested}
 
 module _ (z : ℤ) (small : mag z < 2 ^ hbits w64) where
   held : to_z w64 (of_z w64 z) ≡ z
-  held = to_z-of_z (record { sfits = small })
+  held = to_z-of_z {w = w64} (record { sfits = small })
 
   -- the machine's 3 is 3
   pub version-three : of_z w64 z ≡ 3 → of_natural (λ n. eqb n 3) z ≡ true

@@ -1,5 +1,7 @@
 // The tests that an LM by name has before every item and every value: its version, 10, and its subtype, 11 (document 01, "Refusal
 // numbers"). They need no table.
+#![tactic(auto)]
+
 ghost use Rattle.std.specs.Prelude.{◌≡◌};
 ghost use Rattle.lm_guard.specs.Tested.{lm_tested, lm_list_tested};
 

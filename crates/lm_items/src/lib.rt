@@ -1,6 +1,8 @@
 // The parts of an LM (ISO 16460, clause 5) as a reader without a table takes them: sections that follow each other, each with an
 // opening, then fields of its own kind, then strings of octets. What they ask for, item by item, is in specs/Asked.antt; that the
 // table of LM asks for the same, in specs/Same.antt.
+#![tactic(auto)]
+
 ghost use Rattle.std.specs.Prelude.{◌≡◌};
 ghost use Rattle.lm_items.specs.Asked.{following, rank, is_content, least};
 

@@ -1,5 +1,7 @@
 // The openings of an LM's sections: the first octet of an N-Header holds its subtype, its extensions flag and its version, that of a
 // T-Header its feature selector and its extensions flag (ISO 16460, clause 5).
+#![tactic(auto)]
+
 ghost use Rattle.std.specs.Prelude.{◌≡◌, ◌%◌, ◌<◌, ◌≤◌, length};
 ghost use Rattle.bits.specs.Access.{most_octets};
 ghost use Rattle.read_steps.specs.Reads.{state_at};

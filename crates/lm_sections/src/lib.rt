@@ -1,4 +1,6 @@
 // The sections of an LM, one after the other (ISO 16460, clause 5).
+#![tactic(auto)]
+
 ghost use Rattle.std.specs.Prelude.{◌≡◌, ◌%◌, ◌<◌, ◌≤◌, length};
 ghost use Rattle.bits.specs.Access.{most_octets};
 ghost use Rattle.read_steps.specs.Reads.{Reads, state_at};

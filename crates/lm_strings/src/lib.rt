@@ -1,4 +1,6 @@
 // The strings of octets in an LM: its extension elements, each an ID and contents, and its user data (ISO 16460, clause 5).
+#![tactic(auto)]
+
 ghost use Rattle.std.specs.Prelude.{◌≡◌, ◌%◌, ◌≤◌, length};
 ghost use Rattle.bits.specs.Access.{most_octets};
 ghost use Rattle.items.specs.Items.{times};

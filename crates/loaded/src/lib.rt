@@ -1,5 +1,7 @@
 // Reading through a state that a table was loaded into (document 02, ticket 3): no check and no walk to the root. What comes of it is said
 // for any octets that a state may hold (loading's specs/State.antt): no call here asks anything of its arguments.
+#![tactic(auto)]
+
 ghost use Rattle.std.specs.Prelude.{◌≡◌, ◌/◌, ◌≤◌, ◌<◌, length, set};
 ghost use Rattle.bits.specs.Access.{most_octets};
 ghost use Rattle.values.specs.Values.{set_value};

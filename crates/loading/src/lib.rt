@@ -1,5 +1,7 @@
 // A table that is checked once, and not for each message (document 02, ticket 3): it is loaded into a state that the caller lends, with
 // the outcome of the check, its row count, its root and the depth of every row start. What a state holds is specs/State.antt.
+#![tactic(auto)]
+
 ghost use Rattle.std.specs.Prelude.{◌≡◌, ◌++◌, ◌-◌, ◌≤◌, length, take, drop, replicate};
 ghost use Rattle.table.specs.Verdict.{verdict, checked};
 ghost use Rattle.loading.specs.State.{numbers_of, state_with, loaded_by};

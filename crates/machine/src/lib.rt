@@ -1,5 +1,7 @@
 // A program that takes one unit after another from its input, such as a frame or a record of a capture: what octets begin with, and how
 // much of the input came before.
+#![tactic(auto)]
+
 ghost use Rattle.std.specs.Prelude.{◌+◌, ◌≡◌};
 ghost use Rattle.machine.specs.Counts.{counted, nothing, after_unit};
 

@@ -1,5 +1,7 @@
 // LM, SAM and SRM by name. Their tables are proved to pass, so no check runs. An LM has two tests of its own before every item
 // (document 01: 10 on the version, 11 on the subtype).
+#![tactic(auto)]
+
 pub mod either;
 
 ghost use Rattle.std.specs.Prelude.{◌≡◌, length};

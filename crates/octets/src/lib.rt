@@ -1,4 +1,6 @@
 // Little-endian numbers in octets, as the rows of a table hold them.
+#![tactic(auto)]
+
 ghost use Rattle.std.specs.Prelude.{◌≡◌, ◌+◌, ◌<◌, length};
 ghost use Rattle.octets.specs.Numbers.{u16, u32, signed};
 

@@ -1,5 +1,7 @@
 // An opened message: the lent octets and a bit place, held together (document 01, "Refusal numbers"). The functions over
 // the struct are thin: the work is done on a slice and a place.
+#![tactic(auto)]
+
 ghost use Rattle.std.specs.Prelude.{◌≡◌, ◌≤◌, length};
 ghost use Rattle.bits.specs.Access.{most_octets};
 ghost use Rattle.opened.specs.Opened.{kept, opening, refused_at, of_fetched, taken, place_of};
@@ -86,7 +88,7 @@ fn place_after(taken: Taken) -> BitPlace
 
 // Opens a message, at its first bit. The octets are not copied: they stay where they were lent.
 pub fn open<'a>(message: &'a [u8]) -> Opened<'a>
-    ensures { (result.message.now ≡ kept message.now) × (result.message.ptr ≡ message.entry.ref_ptr) × (result.place.0 ≡ 0) }
+    ensures { (result.message.now ≡ kept message.now) × (result.message.ref_ptr ≡ message.entry.ref_ptr) × (result.place.0 ≡ 0) }
 {
     Opened {
         message: held(message),

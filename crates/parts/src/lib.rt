@@ -1,4 +1,6 @@
 // What reading and writing the rows of a table share: the mask of a record's fields.
+#![tactic(auto)]
+
 ghost use Rattle.std.specs.Prelude.{◌≡◌, false, ◌<◌, ◌≤◌, ◌^◌, get_or};
 ghost use Rattle.bits.specs.Bits.{bits_of};
 

@@ -1,5 +1,7 @@
 // The headers of a classic capture file (document 02, ticket 6). The file's own header has 24 octets, and a record's 16, with its octets
 // behind it. Numbers stand in the file's octet order, which the first four octets tell; an EtherType is big-endian in every file.
+#![tactic(auto)]
+
 ghost use Rattle.std.specs.Prelude.{◌+◌, ◌*◌, ◌<◌, ◌≤◌, ◌≡◌, length};
 ghost use Rattle.machine.specs.declared.Front.TheVariants.{Whole, Part};
 ghost use Rattle.pcap.specs.Pcap.{spelled, word, headed, order_of, file_front, record_front, record_of};

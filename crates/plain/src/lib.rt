@@ -1,5 +1,7 @@
 // An LM read without a table (document 02, ticket 4), straight from the layout of ISO 16460, clause 5: section after section, by whole
 // octets. Answers, values and zeros are those of an LM by name.
+#![tactic(auto)]
+
 ghost use Rattle.std.specs.Prelude.{◌≡◌, ◌/◌, length, set};
 ghost use Rattle.values.specs.Values.{set_value};
 ghost use Rattle.items.specs.Reading.{read_answer};

@@ -1,5 +1,7 @@
 // For the tests in host/ alone and no part of the product, so that nothing here has a contract: the calls by name and
 // those with values as numbers, which the host's calls do not reach.
+#![tactic(auto)]
+
 use bits::{BitPlace, Fetched, OctetSize};
 use elements::Home;
 use loading::STATE;

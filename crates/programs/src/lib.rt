@@ -1,5 +1,7 @@
 // The programs that take units from their input, each by its own rules: the bench program's frames, and the records of a capture. Turns
 // and buffers are written once for all of them: `Progress` tells which one runs, and how far it is.
+#![tactic(auto)]
+
 ghost use Rattle.std.specs.Prelude.{◌+◌, ◌<◌, ◌≤◌, ◌≡◌, length};
 ghost use Rattle.machine.specs.declared.Front.TheVariants.{Part};
 ghost use Rattle.lines.specs.Text.{Appended};

@@ -1,6 +1,8 @@
 // The beginning of a row. Choices come first: each is an index, which leaves the row of its branch. Then the items that are the
 // row's own: all of them where it is a variable number or octets (read_leaf), none where it is a number, which is left as a run of
 // one, else the length of a counted run or the presence bits of a record; and what they leave to be read.
+#![tactic(auto)]
+
 ghost use Rattle.std.specs.Prelude.{◌≡◌, ◌+◌, ◌<◌, ◌≤◌, length};
 ghost use Rattle.bits.specs.Access.{most_octets};
 ghost use Rattle.octets.specs.Numbers.{u16};

@@ -1,5 +1,7 @@
 // Reads one item of a message. The tests come in document 01's order; the answer is the value with the place after it, or the
 // refusal at the item's own place.
+#![tactic(auto)]
+
 ghost use Rattle.std.specs.Prelude.{◌≡◌, ◌+◌, ◌*◌, ◌≤◌, ◌<◌, length, drop};
 ghost use Rattle.std.specs.Int.Signed.{mag};
 ghost use Rattle.bits.specs.Access.{most_octets};

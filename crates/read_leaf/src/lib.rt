@@ -1,5 +1,7 @@
 // The rows that refer to no other: a number, a variable number, octets. Each item is read, and kept where there is room for its
 // value.
+#![tactic(auto)]
+
 ghost use Rattle.std.specs.Prelude.{◌+◌, ◌≤◌, length};
 ghost use Rattle.bits.specs.Access.{most_octets};
 ghost use Rattle.octets.specs.Numbers.{u16, u32, signed};

@@ -1,5 +1,7 @@
 // Runs of octets of a message into values. What a run needs is tested once, for all of its octets; the loops over them have no
 // test of their own, and take four at a time, the last few one by one.
+#![tactic(auto)]
+
 ghost use Rattle.std.specs.Prelude.{◌≡◌, ◌+◌, ◌-◌, ◌*◌, ◌/◌, ◌<◌, ◌≤◌, length, drop, set};
 ghost use Rattle.bits.specs.Access.{most_octets};
 ghost use Rattle.bits.specs.Bits.{unpack};

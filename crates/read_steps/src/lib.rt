@@ -1,5 +1,7 @@
 // The steps of a reader that know no table: an item that was read is kept, numbers and octets are read in runs, and the padding
 // closes a message.
+#![tactic(auto)]
+
 ghost use Rattle.std.specs.Prelude.{◌≡◌, ◌*◌, ◌≤◌, pos, length, set};
 ghost use Rattle.std.specs.Int.Signed.{mag};
 ghost use Rattle.bits.specs.Access.{most_octets};

@@ -1,6 +1,8 @@
 // Reads the items that a row asks for from a message, and keeps their values in the slices that are lent. Choices are followed to a
 // row, whose own items come first (read_begin); then the rows that it refers to, each earlier. The row is one of a table that passed
 // the check, or of a state of any octets, whose rows are tested before they are read (guard): the reader is one for both.
+#![tactic(auto)]
+
 ghost use Rattle.std.specs.Prelude.{◌≡◌, ◌+◌, ◌<◌, ◌≤◌, ◌^◌, length};
 ghost use Rattle.bits.specs.Access.{most_octets};
 ghost use Rattle.octets.specs.Numbers.{u16};

@@ -1,5 +1,7 @@
 // Reads all lent octets as one message under a table that is known to pass: 13, 2 for no octets, the root, the padding, and zeros
 // after the values.
+#![tactic(auto)]
+
 ghost use Rattle.std.specs.Prelude.{◌≡◌, ◌≤◌, ◌<◌, length, set};
 ghost use Rattle.bits.specs.Access.{most_octets};
 ghost use Rattle.values.specs.Values.{set_value};

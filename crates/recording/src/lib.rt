@@ -1,4 +1,6 @@
 // Replaying one part of a recording (document 02, ticket 8), from a list that is handed over and given back, so that a caller can go on.
+#![tactic(auto)]
+
 ghost use Rattle.std.specs.Prelude.{◌+◌, ◌*◌, ◌≤◌, ◌≡◌, leb, length};
 ghost use Rattle.items.specs.Slices.{filled};
 ghost use Rattle.machine.specs.Machine.{given};

@@ -1,5 +1,7 @@
 // The row type: what document 01's table of rows ("Row layout"), with document 02's kind 8, says by kind, and the numbers that stand in
 // a row, which is told by the offset of its first octet.
+#![tactic(auto)]
+
 
 ghost use Rattle.std.specs.Prelude.{◌≡◌, ◌+◌, ◌*◌, ◌≤◌, ◌<◌, length};
 ghost use Rattle.std.specs.Int.Signed.{mag};

@@ -1,5 +1,7 @@
 // The rules of a table (specs/Rules.antt) for one row, tested against the rows before it, part by part, in the order in which their
 // numbers are answered.
+#![tactic(auto)]
+
 ghost use Rattle.std.specs.Prelude.{◌≡◌, true, ◌&&◌, [], ◌∷◌, ◌+◌, ◌*◌, ◌≤◌, ◌<◌, eqb, length, get_or};
 ghost use Rattle.octets.specs.Numbers.{u16s};
 ghost use Rattle.row.specs.Rows.{within};

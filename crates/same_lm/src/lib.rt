@@ -1,5 +1,7 @@
 // An LM read by name, under its table, and read plainly, without one (document 02, ticket 4): a program that does both and compares,
 // and is proved to find no difference.
+#![tactic(auto)]
+
 ghost use Rattle.std.specs.Prelude.{◌≡◌, true, ◌↔◌, length};
 ghost use Rattle.items.specs.Slices.{values_after};
 ghost use Rattle.lm.specs.ByName.{read_lm_outcome};

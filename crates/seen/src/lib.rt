@@ -1,5 +1,7 @@
 // Records of the IDs that were seen, in a lent slice (document 02, ticket 7): when a record is live, the first record that a search
 // is for, and storing one. The two functions over the slice test no record themselves: `wanted` does.
+#![tactic(auto)]
+
 ghost use Rattle.std.specs.Prelude.{◌≡◌, set};
 ghost use Rattle.seen.specs.Records.{live_at, record_of, first_with};
 ghost use Rattle.seen.specs.Search.{any_record, wanted_by};

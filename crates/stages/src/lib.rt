@@ -1,5 +1,7 @@
 // A capture file from its beginning to its end (document 02, ticket 6): where a reader of it is, what comes next, and the last lines. What
 // is printed of a record is not known here.
+#![tactic(auto)]
+
 ghost use Rattle.std.specs.Prelude.{◌+◌, ◌<◌, ◌≤◌, ◌≡◌, length};
 ghost use Rattle.machine.specs.declared.Front.TheVariants.{Part};
 ghost use Rattle.lines.specs.Text.{Appended};

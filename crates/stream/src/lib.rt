@@ -1,4 +1,6 @@
 // A program's input as a whole: turns until the input ends or the program stops, and then the last lines.
+#![tactic(auto)]
+
 ghost use Rattle.std.specs.Prelude.{◌≤◌, ◌≡◌, length};
 ghost use Rattle.lines.specs.Text.{Appended};
 ghost use Rattle.machine.specs.Counts.{nothing};

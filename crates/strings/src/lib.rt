@@ -1,4 +1,6 @@
 // Octets behind their length, from an octet's first bit of the message on.
+#![tactic(auto)]
+
 ghost use Rattle.std.specs.Prelude.{◌≡◌, ◌%◌, ◌≤◌, pos, length};
 ghost use Rattle.bits.specs.Access.{most_octets};
 ghost use Rattle.item.specs.Code.{Code};

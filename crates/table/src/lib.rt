@@ -1,5 +1,7 @@
 // Tables: the check against document 01's rules ("Row layout"), which tells the first that is broken (document 02, ticket 1), and what
 // a table that passed it tells.
+#![tactic(auto)]
+
 pub mod pass;
 pub mod passed;
 

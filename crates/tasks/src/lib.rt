@@ -1,5 +1,7 @@
 // What a run does with its input: a program that reads messages, or the replay of a drive. Turns, buffers and the run are written once for
 // both. The list of a replay is no part of the task: the run keeps it, so that the other programs don't carry it along.
+#![tactic(auto)]
+
 ghost use Rattle.std.specs.Prelude.{ℕ, ◌+◌, ◌<◌, ◌≤◌, ◌≡◌, length};
 ghost use Rattle.machine.specs.declared.Front.TheVariants.{Whole, Part};
 ghost use Rattle.lines.specs.Text.{Appended};

@@ -1,6 +1,8 @@
 // What a host written in Rust or C calls: check, read and write under a lent table, load a table once and read through the state
 // that it was loaded into, and forward a message, on plain numbers, octet slices and a list of records. A value is eight octets, little-endian, two's complement; octets after the
 // last whole eight of a value slice hold none.
+#![tactic(auto)]
+
 ghost use Rattle.std.specs.Prelude.{◌≡◌, ◌/◌, length};
 ghost use Rattle.values.specs.Values.{values_in};
 ghost use Rattle.table.specs.Verdict.{verdict, checked};

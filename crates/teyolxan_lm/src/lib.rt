@@ -1,5 +1,7 @@
 // What the smallest unit of a host calls (document 02, ticket 4): an LM read with no table, on octet slices, with the answers of an LM by
 // name. A value is eight octets, little-endian, two's complement; octets after the last whole eight of a value slice hold none.
+#![tactic(auto)]
+
 ghost use Rattle.std.specs.Prelude.{◌≡◌, ◌/◌, length};
 ghost use Rattle.items.specs.Slices.{packed_after};
 ghost use Rattle.lm.specs.ByName.{read_lm_outcome, read_lm_call};

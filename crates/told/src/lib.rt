@@ -1,4 +1,6 @@
 // An answer as the numbers that a host is told: a part, for the calls and for the tests in host/.
+#![tactic(auto)]
+
 ghost use Rattle.std.specs.Prelude.{◌≡◌};
 ghost use Rattle.told.specs.Told.{told};
 

@@ -1,4 +1,6 @@
 // A turn of a program that takes units from its input: lines are written, a unit's line is put, or input is read. Every program turns here.
+#![tactic(auto)]
+
 ghost use Rattle.std.specs.Prelude.{◌+◌, ◌≤◌, ◌≡◌, length, take};
 ghost use Rattle.buffers.specs.Held.{Held, HeldAfter, at_hand};
 ghost use Rattle.programs.specs.Programs.{header_of, programs};

@@ -1,5 +1,7 @@
 // The user data of an LM: the part of the lent message that it is, and where that part stands. Nothing is kept of the values,
 // so that neither call has a value slice.
+#![tactic(auto)]
+
 ghost use Rattle.std.specs.Prelude.{◌≡◌, ◌+◌, ◌≤◌, length};
 ghost use Rattle.bits.specs.Access.{most_octets};
 ghost use Rattle.userdata.specs.UserData.{user_data_found, part_of, start_of};

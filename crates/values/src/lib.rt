@@ -1,5 +1,7 @@
 // Values in memory, as a slice of 64-bit numbers or as octets, eight for each value. Every call lends both slices, and a
 // caller that has one of them lends the other empty: so that one engine serves both, and one that keeps nothing.
+#![tactic(auto)]
+
 ghost use Rattle.std.specs.Prelude.{◌≡◌, ◌++◌, ◌+◌, ◌-◌, ◌*◌, ◌/◌, ◌<◌, ◌≤◌, min, pos, length, get_or, set, take, drop, replicate};
 ghost use Rattle.std.proofs.lemmas.List.Edits.{sets};
 ghost use Rattle.std.proofs.Math.Seq.{paste};

@@ -48,10 +48,10 @@ module _ {b : ℕ} where
   spaced-presence : {e : Bool} {n : ℕ} (flags : List ℕ) (k : List Bool → Items) → ((ps : List Bool) → Spaced b true b (k ps))
       → Spaced b e n (k (replicate (length flags) true)) → Spaced b e n (presence flags k)
   unfolding presence
-  spaced-presence [] k h s = s
-  spaced-presence (zero ∷ flags) k h s = spaced-presence flags (λ ps. k (true ∷ ps)) (λ ps. h (true ∷ ps)) s
-  spaced-presence (suc f ∷ flags) k h s =
-      asks refl (λ v. spaced-presence flags (λ ps. k (eqb (natural v) 1 ∷ ps)) (λ ps. h (eqb (natural v) 1 ∷ ps)) (h (eqb (natural v) 1 ∷ replicate (length flags) true)))
+  spaced-presence {e = e} {n = n} [] k h s = s
+  spaced-presence {e = e} {n = n} (zero ∷ flags) k h s = spaced-presence {e = e} {n = n} flags (λ ps. k (true ∷ ps)) (λ ps. h (true ∷ ps)) s
+  spaced-presence {e = e} {n = n} (suc f ∷ flags) k h s =
+      asks refl (λ v. spaced-presence {e = true} {n = b} flags (λ ps. k (eqb (natural v) 1 ∷ ps)) (λ ps. h (eqb (natural v) 1 ∷ ps)) (h (eqb (natural v) 1 ∷ replicate (length flags) true)))
 
 -- what a row asks for, g giving what the rows before it ask for: at most n marks before its first item
 module _ (b n : ℕ) (g : ℕ → Items) where

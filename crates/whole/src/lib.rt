@@ -1,4 +1,6 @@
 // Whole octets of a message, from an octet's first bit on: a fetch that has nothing to cut, and the numbers that it reads.
+#![tactic(auto)]
+
 ghost use Rattle.std.specs.Prelude.{◌≡◌, ◌+◌, ◌*◌, ◌%◌, ◌<◌, ◌≤◌, ◌^◌, pos, length, take, drop, set};
 ghost use Rattle.bits.specs.Access.{most_octets, fetched};
 ghost use Rattle.bits.specs.Bits.{number_of, unpack};

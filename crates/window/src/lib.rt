@@ -1,5 +1,7 @@
 // Five octets of a slice as one number of 40 bits, the first octet on top. Octets past the end read as 0, and nothing is
 // stored there.
+#![tactic(auto)]
+
 ghost use Rattle.std.specs.Prelude.{◌≡◌, ◌+◌, ◌-◌, ◌*◌, ◌/◌, ◌%◌, ◌<◌, ◌≤◌, ◌^◌, length, get_or, set};
 ghost use Rattle.bits.specs.Access.{most_octets};
 ghost use Rattle.window.specs.Window.{four_at, window_at, with_window, placed};

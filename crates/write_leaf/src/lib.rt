@@ -1,5 +1,7 @@
 // The rows that refer to no other: a number, a variable number, octets. Each item takes the next value of the list; a value that
 // is missing is refused as a wrong one.
+#![tactic(auto)]
+
 ghost use Rattle.std.specs.Prelude.{true, ◌≡◌, ◌+◌, ◌≤◌, length};
 ghost use Rattle.bits.specs.Access.{most_octets};
 ghost use Rattle.octets.specs.Numbers.{u16, u32, signed};

@@ -1,5 +1,7 @@
 // Runs of values into octets of an output. What a run needs is tested once, for all of its octets; the loop over them has one
 // test alone, whether a value is an octet.
+#![tactic(auto)]
+
 ghost use Rattle.std.specs.Prelude.{true, false, ◌++◌, ◌≡◌, ◌+◌, ◌-◌, ◌*◌, ◌/◌, ◌<◌, ◌≤◌, pos, nat_abs, length, get_or};
 ghost use Rattle.bits.specs.Access.{most_octets};
 ghost use Rattle.values.specs.Values.{values_in};

@@ -1,5 +1,7 @@
 // The steps of a writer that know no table: the next value of a list is given and put, numbers and octets are written in runs,
 // and zero bits end a message.
+#![tactic(auto)]
+
 ghost use Rattle.std.specs.Prelude.{◌≡◌, ◌*◌, ◌≤◌, min, pos, length};
 ghost use Rattle.std.specs.Int.Signed.{mag};
 ghost use Rattle.bits.specs.Access.{most_octets};

@@ -1,5 +1,7 @@
 // Writes the items that a row of a passed table asks for into an output, from the values of a list in the slices that are lent.
 // Choices are followed to a row, whose own items come first (write_begin); then the rows that it refers to, each earlier in the table.
+#![tactic(auto)]
+
 ghost use Rattle.std.specs.Prelude.{◌≡◌, ◌+◌, ◌<◌, ◌≤◌, ◌^◌, length};
 ghost use Rattle.bits.specs.Access.{most_octets};
 ghost use Rattle.octets.specs.Numbers.{u16};

@@ -1,4 +1,6 @@
 // Writes a list as one message under a table that is known to pass: the root, its end, and zeros to the output's real end.
+#![tactic(auto)]
+
 ghost use Rattle.std.specs.Prelude.{◌≡◌, ◌≤◌, length};
 ghost use Rattle.bits.specs.Access.{most_octets};
 ghost use Rattle.rules.specs.Rules.{Obeys};
