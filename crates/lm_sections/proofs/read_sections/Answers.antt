@@ -1,0 +1,42 @@
+use mathlib.Core.Path.{◌≡◌, refl, ap}
+use native.Mathlib.Omega.{arith}
+use borrow.Author.Rules.{rules}
+use Rattle.read_steps.specs.Reads.{state_at}
+use Rattle.read_steps.proofs.Flow.{continues-trans, continues_same, continues_end}
+use Rattle.lm_items.specs.Asked.{rank, asked}
+use Rattle.lm_sections.specs.Passes.{Passes}
+use Rattle.lm_sections.specs.declared.Passed.TheVariants.{Next}
+use Rattle.lm_sections.proofs.Sections.{no_more}
+use Rattle.lm_sections.proofs.read_sections.Goals as goal
+
+pub loop-section-init : goal.loop-section-init
+loop-section-init c = (refl, refl, c.requires.1, continues_same refl)
+
+pub read_section-passed-requires : goal.read_section-passed-requires
+read_section-passed-requires c =
+    (search rules, c.loop-section.invariant.2, rw c.rank.ensures at c.loop-section-test.true)
+
+-- the section, read
+
+pub returns-in_default : goal.returns-in_default
+returns-in_default c =
+    let told = c.in_default.is in
+    rw (c.stopped.ensures, told) (c.loop-section.invariant.3.complete _ _ _ (rw told at c.read_section-passed.ensures))
+
+pub loop-section-smaller : goal.loop-section-smaller
+loop-section-smaller c =
+    let passes : let a = c.args in let next = c.passed-1.given.0 in
+    Passes c.loop-section.section a.message.now a.room (state_at c.loop-section.here c.loop-section.values c.loop-section.packed) c.read_section-passed.new.1.1.0 c.read_section-passed.new.1.1.1.0 (Next next.0 next.1.0) = rw c.in-Next.is at c.read_section-passed.ensures in
+    (passes).1
+
+pub loop-section-preserved : goal.loop-section-preserved
+loop-section-preserved c =
+    let passes : let a = c.args in let next = c.passed-1.given.0 in
+    Passes c.loop-section.section a.message.now a.room (state_at c.loop-section.here c.loop-section.values c.loop-section.packed) c.read_section-passed.new.1.1.0 c.read_section-passed.new.1.1.1.0 (Next next.0 next.1.0) = rw c.in-Next.is at c.read_section-passed.ensures in
+    (search rules, search rules, (passes).2, continues-trans c.loop-section.invariant.3 (passes).0)
+
+pub returns : goal.returns
+unfolding asked
+returns c =
+    let none : rank c.loop-section.section ≡ 0 = omega (arith, c.loop-section-test.false, c.rank.ensures) in
+    continues_end (continues-trans c.loop-section.invariant.3 (continues_same (ap asked (no_more c.loop-section.section none))))

@@ -1,0 +1,47 @@
+-- `messages::either::lm_message` meets its contract. What the tests refused; or the table's outcome.
+-- Assumes nothing.
+use Prim.Native.Nat.{◌-◌}
+use mathlib.Core.Path.{sym, ◌∙◌}
+use Rattle.builtin.specs.Tables.{lm}
+use Rattle.builtin.proofs.Tables.{lm-obeys, lm-root}
+use Rattle.lm_guard.proofs.Tests.{fine, unfit}
+use borrow.Author.Rules.{rules}
+use Rattle.messages.proofs.either.lm_message.Goals as goal
+
+pub lm_tested-tested-requires : goal.lm_tested-tested-requires
+lm_tested-tested-requires c = search rules
+
+pub enum_told-1 : goal.enum_told-1
+enum_told-1 c = search rules
+
+pub enum_told-in_default : goal.enum_told-in_default
+enum_told-in_default c = search rules
+
+pub returns-in_default : goal.returns-in_default
+returns-in_default c =
+    let a = c.args in
+    rw (unfit a.message.now a.room _ (sym c.lm_tested-tested.ensures ∙ c.in_default.is)) (c.in_default.is, tt, tt)
+
+-- UNRESOLVED slice-aggregate-read-message
+slice-aggregate-read-message : tie.Need-slice-aggregate-read-message
+slice-aggregate-read-message c = search rules
+
+
+pub read_message-requires : goal.read_message-requires
+unfolding lm
+read_message-requires c =
+    let a = c.args in
+    let f = fine a.message.now a.room _ (sym c.lm_tested-tested.ensures ∙ c.in-Accepted.is) in
+    (lm-obeys, sym lm-root, f.some, f.most)
+
+pub shape_of-values : goal.shape_of-values
+shape_of-values c = search rules
+
+pub shape_of-packed : goal.shape_of-packed
+shape_of-packed c = search rules
+
+pub returns : goal.returns
+unfolding lm
+returns c =
+    let a = c.args in
+    rw (fine a.message.now a.room _ (sym c.lm_tested-tested.ensures ∙ c.in-Accepted.is)).outcome c.read_message.ensures

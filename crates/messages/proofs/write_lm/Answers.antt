@@ -1,0 +1,62 @@
+-- `messages::write_lm` meets its contract. What the tests refused; or the table's outcome.
+-- Assumes nothing.
+use Prim.Native.Nat.{ℕ, ◌-◌}
+use mathlib.Core.Path.{sym, ap, ◌∙◌}
+use lib.ListN.{length}
+use Rattle.builtin.specs.Tables.{lm}
+use Rattle.builtin.proofs.Tables.{lm-obeys, lm-root}
+use mathlib.Core.List.{List, append-nil}
+use Rattle.values.specs.Values.{values_in, values_from}
+use Rattle.items.specs.Slices.{filled, output_after}
+use Rattle.items.specs.Writing.{write_answer}
+use Rattle.writing.proofs.Passed.{write-passed}
+use Rattle.lm_guard.proofs.ListTests.{list-passed, list-refused}
+use borrow.Author.Rules.{rules}
+use Rattle.messages.proofs.write_lm.Goals as goal
+
+pub lm_list_tested-tested-requires : goal.lm_list_tested-tested-requires
+lm_list_tested-tested-requires c = search rules
+
+pub enum_told-1 : goal.enum_told-1
+enum_told-1 c = search rules
+
+pub enum_told-in_default : goal.enum_told-in_default
+enum_told-in_default c = search rules
+
+pub clear_octets-requires : goal.clear_octets-requires
+clear_octets-requires c = search rules
+
+pub shape_of-output-in_default : goal.shape_of-output-in_default
+shape_of-output-in_default c = search rules
+
+pub returns-in_default : goal.returns-in_default
+returns-in_default c =
+    let a = c.args in
+    let n = length a.output.now in
+    let told = c.in_default.is in
+    let b = list-refused a.values.now n _ (sym c.lm_list_tested-tested.ensures ∙ told) in
+    (told ∙ b.0, c.clear_octets.ensures ∙ ap (λ (s : List ℕ). filled 0 n s) (sym b.1))
+
+pub slice_bounds-write_known-end-2 : goal.slice_bounds-write_known-end-2
+slice_bounds-write_known-end-2 c = search rules
+
+-- UNRESOLVED slice-aggregate-write-known-2
+slice-aggregate-write-known-2 : tie.Need-slice-aggregate-write-known-2
+slice-aggregate-write-known-2 c = search rules
+
+
+pub write_known-requires : goal.write_known-requires
+unfolding lm
+write_known-requires c = (lm-obeys, sym lm-root)
+
+pub shape_of-output : goal.shape_of-output
+shape_of-output c = search rules
+
+pub returns : goal.returns
+unfolding lm values_in values_from
+returns c =
+    let a = c.args in
+    let n = length a.output.now in
+    let e = write-passed lm a.values.now n lm-obeys ∙ sym (list-passed a.values.now n _ (sym c.lm_list_tested-tested.ensures ∙ c.in-Accepted.is)) in
+    let r = rw append-nil at c.write_known.ensures in
+    (r.0 ∙ ap write_answer e, r.1 ∙ ap (output_after n) e)

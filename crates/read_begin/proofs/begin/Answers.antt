@@ -1,0 +1,78 @@
+-- `read_begin::begin` meets its contract. By the kind of the row.
+-- Assumes nothing.
+use Prim.Native.Nat.{◌+◌}
+use mathlib.Core.Path.{◌≡◌, sym, ◌∙◌}
+use native.Mathlib.Omega.{arith}
+use Rattle.octets.specs.Numbers.{u16}
+use Rattle.row.proofs.Fits.{fixed_fits, octets_fits, last_kind}
+use Rattle.encoding.proofs.RowItems.{asks-fixed}
+use Rattle.guard.specs.Readable.{asks_from}
+use Rattle.guard.proofs.Readable.{asks-row, variable-asks, octets-asks}
+use Rattle.read_steps.proofs.Flow.{continues_same}
+use Rattle.read_begin.proofs.Beginnings.{begins-reads, begins-number, begins-run, fixed-reached}
+use Rattle.read_begin.proofs.begin.Goals as goal
+
+pub kind_at-kind-requires : goal.kind_at-kind-requires
+kind_at-kind-requires c =
+    c.requires.0.readable.row.start
+
+pub count_at-count-requires : goal.count_at-count-requires
+count_at-count-requires c =
+    let k = sym c.kind_at-kind.ensures.0 ∙ c.in-3.is in
+    omega (arith, (fixed_fits c.requires.0.readable.row k).1)
+
+pub run_at-row-requires : goal.run_at-row-requires
+run_at-row-requires c =
+    let k = sym c.kind_at-kind.ensures.0 ∙ c.in-3.is in
+    (fixed_fits c.requires.0.readable.row k).1
+
+pub run_of-requires : goal.run_of-requires
+run_of-requires c =
+    let k = sym c.kind_at-kind.ensures.0 ∙ c.in-3.is in
+    rw c.run_at-row.ensures.0 (fixed-reached c.requires.0 k c.requires.1).readable.row.start
+
+pub octets-requires : goal.octets-requires
+octets-requires c =
+    let t = c.args.table.now in
+    let kind = c.args.at + 2 in
+    let k = c.kind_at-kind.ensures.0 in
+    let r = c.in-1.rest in
+    let is = last_kind c.requires.0.readable.row
+    (λ (e : u16 t kind ≡ 1). r.0.0.0.0.1 (k ∙ e))
+    (λ (e : u16 t kind ≡ 2). r.0.0.0.1 (k ∙ e))
+    (λ (e : u16 t kind ≡ 3). r.0.0.1 (k ∙ e))
+    (λ (e : u16 t kind ≡ 4). r.0.1 (k ∙ e))
+    (λ (e : u16 t kind ≡ 5). r.1 (k ∙ e))
+    c.requires.1 in
+    ((octets_fits c.requires.0.readable.row is).1, c.requires.2)
+
+pub returns-in-1 : goal.returns-in-1
+returns-in-1 c =
+    begins-number c.requires.0.readable (sym c.kind_at-kind.ensures.0 ∙ c.in-1.is)
+
+pub returns-in-2 : goal.returns-in-2
+returns-in-2 c =
+    let t = c.args.table.now in
+    let k = sym c.kind_at-kind.ensures.0 ∙ c.in-2.is in
+    rw c.whole.ensures (begins-reads t c.args.at c.variable.result (rw (variable-asks c.requires.0.readable k) c.variable.ensures))
+
+pub returns-in-3 : goal.returns-in-3
+returns-in-3 c =
+    let k = sym c.kind_at-kind.ensures.0 ∙ c.in-3.is in
+    rw (c.run_of.ensures, c.count_at-count.ensures.0, c.run_at-row.ensures.0)
+    (begins-run c.args.at _ _ (fixed-reached c.requires.0 k c.requires.1) (continues_same (asks-row c.requires.0 ∙ asks-fixed (asks_from c.args.table.now c.args.at) c.args.table.now c.args.at _ _ (fixed_fits c.requires.0.readable.row k).0)))
+
+pub returns-in_default : goal.returns-in_default
+returns-in_default c =
+    let t = c.args.table.now in
+    let kind = c.args.at + 2 in
+    let k = c.kind_at-kind.ensures.0 in
+    let r = c.in-1.rest in
+    let is = last_kind c.requires.0.readable.row
+    (λ (e : u16 t kind ≡ 1). r.0.0.0.0.1 (k ∙ e))
+    (λ (e : u16 t kind ≡ 2). r.0.0.0.1 (k ∙ e))
+    (λ (e : u16 t kind ≡ 3). r.0.0.1 (k ∙ e))
+    (λ (e : u16 t kind ≡ 4). r.0.1 (k ∙ e))
+    (λ (e : u16 t kind ≡ 5). r.1 (k ∙ e))
+    c.requires.1 in
+    rw c.whole-in_default.ensures (begins-reads t c.args.at c.octets.result (rw (octets-asks c.requires.0.readable is) c.octets.ensures))

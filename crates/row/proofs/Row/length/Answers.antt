@@ -1,0 +1,32 @@
+-- `row::Row::length` meets its contract. Each arm is a column of the definition's table, and the last arm has all others.
+use borrow.Author.Tests.{ne_eqb}
+use Rattle.row.specs.Kinds.{by_kind, length_of}
+use Rattle.row.proofs.Row.length.Goals as goal
+
+pub returns-in_default : goal.returns-in_default
+unfolding by_kind length_of
+returns-in_default c = simp (ne_eqb _ _ c.in-1.rest.1, ne_eqb _ _ c.in-1.rest.0.1, ne_eqb _ _ c.in-1.rest.0.0.1, ne_eqb _ _ c.in-1.rest.0.0.0.1, ne_eqb _ _ c.in-1.rest.0.0.0.0.1, ne_eqb _ _ c.in-1.rest.0.0.0.0.0.1, ne_eqb _ _ c.in-1.rest.0.0.0.0.0.0.1, ne_eqb _ _ c.in-1.rest.0.0.0.0.0.0.0.1)
+
+pub returns-in-1 : goal.returns-in-1
+returns-in-1 c = rw c.in-1.is
+
+pub returns-in-2 : goal.returns-in-2
+returns-in-2 c = rw c.in-2.is
+
+pub returns-in-3 : goal.returns-in-3
+returns-in-3 c = rw c.in-3.is
+
+pub returns-in-4 : goal.returns-in-4
+returns-in-4 c = rw c.in-4.is
+
+pub returns-in-5 : goal.returns-in-5
+returns-in-5 c = rw c.in-5.is
+
+pub returns-in-6 : goal.returns-in-6
+returns-in-6 c = rw c.in-6.is
+
+pub returns-in-7 : goal.returns-in-7
+returns-in-7 c = rw c.in-7.is
+
+pub returns-in-8 : goal.returns-in-8
+returns-in-8 c = rw c.in-8.is

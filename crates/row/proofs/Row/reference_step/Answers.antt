@@ -1,0 +1,9 @@
+-- `row::Row::reference_step` meets its contract. The test is the definition's.
+use borrow.Author.Tests.{ne_eqb}
+use Rattle.row.proofs.Row.reference_step.Goals as goal
+
+pub returns-then-kind-eq-RECORD : goal.returns-then-kind-eq-RECORD
+returns-then-kind-eq-RECORD c = rw c.if-kind-eq-RECORD.true
+
+pub returns-else-kind-eq-RECORD : goal.returns-else-kind-eq-RECORD
+returns-else-kind-eq-RECORD c = simp (ne_eqb _ _ c.if-kind-eq-RECORD.false)
