@@ -13,7 +13,7 @@ overflow_sub-output c =
     some_hops m octets c.requires.0 c.requires.1
 
 pub shape_of-output : goal.shape_of-output
-shape_of-output c = length-set c.clear_octets.new.0 3 _ ∙ c.output-2-1.given ∙ c.output.given
+shape_of-output c = length-set c.clear_octets.new.octets 3 _ ∙ c.output-2-1.given ∙ c.output.given
 
 pub returns : goal.returns
 returns c =

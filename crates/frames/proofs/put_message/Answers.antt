@@ -40,5 +40,5 @@ pub returns-in_default : goal.returns-in_default
 unfolding message_line
 returns-in_default c =
     let kind = c.args.kind in
-    let other = c.in-1.rest in
+    let other = c.in_default.rest in
     record { appended = rw (ne_eqb kind 1 other.0.0.1, ne_eqb kind 2 other.0.1, ne_eqb kind 3 other.1) c.put_line.ensures.appended; upper_bound = omega (arith, c.put_line.ensures.upper_bound) }

@@ -20,5 +20,5 @@ pub returns : goal.returns
 returns c =
     let a = c.args in
     let below = c.depth_at-depth.ensures in
-    c.fits2.ensures
+    c.fits.ensures
     ∙ lower-leads a.state.now a.at a.row (omega arith) (omega (arith, below, c.if-depth-eq0.false)) (omega (arith, below, c.depth_at.ensures, c.if-depth_at-depth.false))

@@ -51,7 +51,7 @@ pub returns-in_default : goal.returns-in_default
 returns-in_default c =
     let a = c.args in
     let k = c.kind_at-kind.ensures.0 in
-    let r = c.in-3.rest in
+    let r = c.in_default.rest in
     others-open a.state.now a.at (λ e. r.0.0.1 (k ∙ e)) (λ e. r.0.1 (k ∙ e)) (λ e. r.1 (k ∙ e))
 
 pub returns-in-5 : goal.returns-in-5

@@ -27,7 +27,7 @@ pub returns-in_default : goal.returns-in_default
 returns-in_default c =
     let octets = c.args.octets.now in
     let told = rw (octets_behind octets c.loop-at.at) at c.front-first.ensures.value in
-    (sym (c.loop-at.invariant.1 ∙ rw (whole_none (drop c.loop-at.at octets) (λ size e. absurd (no_other (rw (told ∙ e) at c.in-Whole.keys2)))) (add-zero c.loop-at.at)), c.loop-at.invariant.0)
+    (sym (c.loop-at.invariant.1 ∙ rw (whole_none (drop c.loop-at.at octets) (λ size e. absurd (no_other (rw (told ∙ e) at c.in_default.keys2)))) (add-zero c.loop-at.at)), c.loop-at.invariant.0)
 
 pub returns : goal.returns
 returns c =

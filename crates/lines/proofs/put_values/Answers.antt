@@ -19,7 +19,7 @@ pub loop-i-preserved : goal.loop-i-preserved
 loop-i-preserved c =
     let a = c.args in
     let text : _ ≡ _ = listed_more a.values.now c.loop-i.i (pos 0) c.loop-i-test.true in (
-      c.put_item-next.auto.0 ∙ c.loop-i.invariant.0,
+      c.put_item-next.auto.out ∙ c.loop-i.invariant.0,
       omega arith,
       omega arith,
       omega (arith, c.put_item-next.ensures.upper_bound, c.loop-i.invariant.3),

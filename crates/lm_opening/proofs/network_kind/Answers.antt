@@ -14,4 +14,4 @@ others (suc zero) f g = absurd (g refl)
 others (suc (suc n)) f g = refl
 
 pub returns-in_default : goal.returns-in_default
-returns-in_default c = others c.args.subtype c.in-0.rest.0.1 c.in-0.rest.1
+returns-in_default c = others c.args.subtype c.in_default.rest.0.1 c.in_default.rest.1

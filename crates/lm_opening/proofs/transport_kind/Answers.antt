@@ -13,4 +13,4 @@ others zero f = absurd (f refl)
 others (suc n) f = refl
 
 pub returns-in_default : goal.returns-in_default
-returns-in_default c = others c.args.selector c.in-0.rest.1
+returns-in_default c = others c.args.selector c.in_default.rest.1

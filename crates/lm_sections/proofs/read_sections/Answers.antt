@@ -26,13 +26,13 @@ returns-in_default c =
 pub loop-section-smaller : goal.loop-section-smaller
 loop-section-smaller c =
     let passes : let a = c.args in let next = c.passed-1.given.0 in
-    Passes c.loop-section.section a.message.now a.room (state_at c.loop-section.here c.loop-section.values c.loop-section.packed) c.read_section-passed.new.1.1.0 c.read_section-passed.new.1.1.1.0 (Next next.0 next.1.0) = rw c.in-Next.is at c.read_section-passed.ensures in
+    Passes c.loop-section.section a.message.now a.room (state_at c.loop-section.here c.loop-section.values c.loop-section.packed) c.read_section-passed.new.packed c.read_section-passed.new.1.1.1.0 (Next next.0 next.1.0) = rw c.in-Next.is at c.read_section-passed.ensures in
     (passes).1
 
 pub loop-section-preserved : goal.loop-section-preserved
 loop-section-preserved c =
     let passes : let a = c.args in let next = c.passed-1.given.0 in
-    Passes c.loop-section.section a.message.now a.room (state_at c.loop-section.here c.loop-section.values c.loop-section.packed) c.read_section-passed.new.1.1.0 c.read_section-passed.new.1.1.1.0 (Next next.0 next.1.0) = rw c.in-Next.is at c.read_section-passed.ensures in
+    Passes c.loop-section.section a.message.now a.room (state_at c.loop-section.here c.loop-section.values c.loop-section.packed) c.read_section-passed.new.packed c.read_section-passed.new.1.1.1.0 (Next next.0 next.1.0) = rw c.in-Next.is at c.read_section-passed.ensures in
     (search rules, search rules, (passes).2, continues-trans c.loop-section.invariant.3 (passes).0)
 
 pub returns : goal.returns

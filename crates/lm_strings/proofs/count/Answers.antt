@@ -45,7 +45,7 @@ unfolding elements_if
 returns-in-Past c =
     let count_kept : let a = c.args in
     Keeping (length_within 0 255) a.message.now a.room (state_at a.cursor a.values.now a.packed.now)
-    c.kept-step.new.1.0 c.kept-step.new.1.1.0 c.length-item.result c.kept-step.result = keeping _ refl c.length-item.ensures c.kept-step.ensures in
+    c.kept-step.new.packed c.kept-step.new.1.1.0 c.length-item.result c.kept-step.result = keeping _ refl c.length-item.ensures c.kept-step.ensures in
     let counted-items : (q : Items) → let a = c.args in
     strings_items a.kind a.extended then q ≡ ask (length_within 0 255) (λ v. times (natural v) (string_items a.kind) then q) = λ q. (let a = c.args in
     let element = sym c.is_content.ensures ∙ c.if-is_content.false in
@@ -61,7 +61,7 @@ unfolding elements_if
 returns-in-Refused c =
     let count_kept : let a = c.args in
     Keeping (length_within 0 255) a.message.now a.room (state_at a.cursor a.values.now a.packed.now)
-    c.kept-step.new.1.0 c.kept-step.new.1.1.0 c.length-item.result c.kept-step.result = keeping _ refl c.length-item.ensures c.kept-step.ensures in
+    c.kept-step.new.packed c.kept-step.new.1.1.0 c.length-item.result c.kept-step.result = keeping _ refl c.length-item.ensures c.kept-step.ensures in
     let counted-items : (q : Items) → let a = c.args in
     strings_items a.kind a.extended then q ≡ ask (length_within 0 255) (λ v. times (natural v) (string_items a.kind) then q) = λ q. (let a = c.args in
     let element = sym c.is_content.ensures ∙ c.if-is_content.false in

@@ -29,7 +29,7 @@ clear_octets-requires c =
     c.kept_count-kept.ensures ∙ ap kept_count c.read_either-answer.ensures.0 ∙ count-is (through_state a.state.now a.message.now (length a.packed.now / 8)) in
     let a = c.args in
     let k = kept in
-    omega (arith, k, through_fits a.state.now a.message.now (length a.packed.now / 8), c.read_either-answer.auto.1.1.1.0)
+    omega (arith, k, through_fits a.state.now a.message.now (length a.packed.now / 8), c.read_either-answer.auto.packed)
 
 pub returns : goal.returns
 returns c =
@@ -41,4 +41,4 @@ returns c =
     let o = through_state a.state.now a.message.now n in
     let k = kept in
     let k8 : c.kept_count-kept.result * 8 ≡ 8 * length (read_values o) = omega (arith, k) in
-    (c.read_either-answer.ensures.0, c.clear_octets.ensures ∙ rw k8 (settled-packed o a.packed.now _ (omega (arith, through_fits a.state.now a.message.now n)) c.read_either-answer.auto.1.1.1.0 c.read_either-answer.ensures.2))
+    (c.read_either-answer.ensures.0, c.clear_octets.ensures ∙ rw k8 (settled-packed o a.packed.now _ (omega (arith, through_fits a.state.now a.message.now n)) c.read_either-answer.auto.packed c.read_either-answer.ensures.2))

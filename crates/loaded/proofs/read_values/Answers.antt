@@ -16,7 +16,7 @@ clear_values-requires c =
     let n = length a.values.now in
     let o = through_state a.state.now a.message.now n in
     let k : c.kept_count-kept.result ≡ length (read_values o) = c.kept_count-kept.ensures ∙ ap kept_count c.read_either-answer.ensures.0 ∙ count-is o in
-    omega (arith, through_fits a.state.now a.message.now n, c.read_either-answer.auto.1.1.0)
+    omega (arith, through_fits a.state.now a.message.now n, c.read_either-answer.auto.values)
 
 pub returns : goal.returns
 returns c =
@@ -24,4 +24,4 @@ returns c =
     let n = length a.values.now in
     let o = through_state a.state.now a.message.now n in
     let k : c.kept_count-kept.result ≡ length (read_values o) = c.kept_count-kept.ensures ∙ ap kept_count c.read_either-answer.ensures.0 ∙ count-is o in
-    (c.read_either-answer.ensures.0, c.clear_values.ensures ∙ rw k (settled-values o a.values.now _ (through_fits a.state.now a.message.now n) c.read_either-answer.auto.1.1.0 c.read_either-answer.ensures.1))
+    (c.read_either-answer.ensures.0, c.clear_values.ensures ∙ rw k (settled-values o a.values.now _ (through_fits a.state.now a.message.now n) c.read_either-answer.auto.values c.read_either-answer.ensures.1))

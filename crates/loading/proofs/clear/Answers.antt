@@ -17,4 +17,4 @@ clear_octets-requires c =
 pub returns : goal.returns
 returns c =
     let a = c.args in
-    cleared a.state.now c.clear_octets.new.0 a.from a.end c.requires.0 c.requires.1 c.clear_octets.ensures
+    cleared a.state.now c.clear_octets.new.octets a.from a.end c.requires.0 c.requires.1 c.clear_octets.ensures

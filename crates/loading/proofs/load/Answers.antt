@@ -19,7 +19,7 @@ returns-in-Rows c =
     let is : pass_of a.table.now ≡ Rows c.in-Rows.rows c.in-Rows.root = sym c.pass-found.ensures.0 ∙ c.in-Rows.is in
     let t = a.table.now in (
       c.accepted.ensures ∙ rows-checked t c.in-Rows.rows c.in-Rows.root is,
-      rows-loaded a.state.now t c.in-Rows.rows c.in-Rows.root is c.pass-found.new.1.0 c.store.new.0
+      rows-loaded a.state.now t c.in-Rows.rows c.in-Rows.root is c.pass-found.new.depths c.store.new.state
           (c.pass-found.ensures.1 (rows-passed a.state.now t c.in-Rows.rows c.in-Rows.root is)) c.store.ensures,
     )
 

@@ -26,7 +26,7 @@ clear_values-requires c =
     let a = c.args in
     let o = read_lm_outcome a.message.now (length a.values.now) in
     let k : c.kept_count-kept.result ≡ length (read_values o) = c.kept_count-kept.ensures ∙ ap kept_count c.lm_message-answer.ensures.0 ∙ count-is o in
-    omega (arith, lm_fits a.message.now (length a.values.now), c.lm_message-answer.auto.1.0)
+    omega (arith, lm_fits a.message.now (length a.values.now), c.lm_message-answer.auto.values)
 
 pub shape_of-values : goal.shape_of-values
 shape_of-values c = search rules
@@ -37,4 +37,4 @@ returns c =
     let n = length a.values.now in
     let o = read_lm_outcome a.message.now n in
     let k : c.kept_count-kept.result ≡ length (read_values o) = c.kept_count-kept.ensures ∙ ap kept_count c.lm_message-answer.ensures.0 ∙ count-is o in
-    (c.lm_message-answer.ensures.0, c.clear_values.ensures ∙ rw k (settled-values o a.values.now _ (lm_fits a.message.now n) c.lm_message-answer.auto.1.0 c.lm_message-answer.ensures.1))
+    (c.lm_message-answer.ensures.0, c.clear_values.ensures ∙ rw k (settled-values o a.values.now _ (lm_fits a.message.now n) c.lm_message-answer.auto.values c.lm_message-answer.ensures.1))

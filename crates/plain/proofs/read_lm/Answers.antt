@@ -18,7 +18,7 @@ clear_values-requires c =
     c.kept_count-kept.result ≡ length (read_values (read_lm_outcome a.message.now (length a.values.now))) = let a = c.args in
     c.kept_count-kept.ensures ∙ ap kept_count c.lm_message-answer.ensures.0 ∙ count-is (read_lm_outcome a.message.now (length a.values.now)) in
     let a = c.args in
-    omega (arith, kept-values, lm_fits a.message.now (length a.values.now), c.lm_message-answer.auto.1.0)
+    omega (arith, kept-values, lm_fits a.message.now (length a.values.now), c.lm_message-answer.auto.values)
 
 pub returns : goal.returns
 returns c =
@@ -28,4 +28,4 @@ returns c =
     let a = c.args in
     let n = length a.values.now in
     let o = read_lm_outcome a.message.now n in
-    (c.lm_message-answer.ensures.0, c.clear_values.ensures ∙ rw (kept-values) (settled-values o a.values.now _ (lm_fits a.message.now n) c.lm_message-answer.auto.1.0 c.lm_message-answer.ensures.1))
+    (c.lm_message-answer.ensures.0, c.clear_values.ensures ∙ rw (kept-values) (settled-values o a.values.now _ (lm_fits a.message.now n) c.lm_message-answer.auto.values c.lm_message-answer.ensures.1))

@@ -31,7 +31,7 @@ clear_octets-requires c =
       c.kept_count-kept.ensures ∙ ap kept_count c.lm_message-answer.ensures.0 ∙ count-is (read_lm_outcome a.message.now (length a.values.now / 8)),
       omega (arith, lm_fits a.message.now (length a.values.now / 8)),
     ) in
-    omega (arith, (kept-values).0, (kept-values).1, c.lm_message-answer.auto.1.1.0)
+    omega (arith, (kept-values).0, (kept-values).1, c.lm_message-answer.auto.packed)
 
 pub returns : goal.returns
 returns c =
@@ -43,4 +43,4 @@ returns c =
     ) in
     let a = c.args in
     let o = read_lm_outcome a.message.now (length a.values.now / 8) in
-    (c.lm_message-answer.ensures.0, c.clear_octets.ensures ∙ rw (kept-values).0 (settled-packed o a.values.now _ (kept-values).1 c.lm_message-answer.auto.1.1.0 c.lm_message-answer.ensures.2))
+    (c.lm_message-answer.ensures.0, c.clear_octets.ensures ∙ rw (kept-values).0 (settled-packed o a.values.now _ (kept-values).1 c.lm_message-answer.auto.packed c.lm_message-answer.ensures.2))

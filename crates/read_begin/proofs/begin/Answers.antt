@@ -36,7 +36,7 @@ octets-requires c =
     let t = c.args.table.now in
     let kind = c.args.at + 2 in
     let k = c.kind_at-kind.ensures.0 in
-    let r = c.in-1.rest in
+    let r = c.in_default.rest in
     let is = last_kind c.requires.0.readable.row
     (λ (e : u16 t kind ≡ 1). r.0.0.0.0.1 (k ∙ e))
     (λ (e : u16 t kind ≡ 2). r.0.0.0.1 (k ∙ e))
@@ -67,7 +67,7 @@ returns-in_default c =
     let t = c.args.table.now in
     let kind = c.args.at + 2 in
     let k = c.kind_at-kind.ensures.0 in
-    let r = c.in-1.rest in
+    let r = c.in_default.rest in
     let is = last_kind c.requires.0.readable.row
     (λ (e : u16 t kind ≡ 1). r.0.0.0.0.1 (k ∙ e))
     (λ (e : u16 t kind ≡ 2). r.0.0.0.1 (k ∙ e))

@@ -36,7 +36,7 @@ returns-in_default c =
     asks-row c.requires.0 ∙ asks-counted (asks_from t c.args.at) t c.args.at _ _ (counted_fits c.requires.0.readable.row c.requires.1).0 in
     let length-kept : let a = c.args in
     Keeping (length_within 0 (u16 a.table.now (a.at + 4))) a.message.now a.room (state_at a.cursor a.values.now a.packed.now)
-    c.kept-step.new.1.0 c.kept-step.new.1.1.0 c.length-item.result c.kept-step.result = keeping _ (ap (length_within 0) c.count_at-most.ensures.0) c.length-item.ensures c.kept-step.ensures in
+    c.kept-step.new.packed c.kept-step.new.1.1.0 c.length-item.result c.kept-step.result = keeping _ (ap (length_within 0) c.count_at-most.ensures.0) c.length-item.ensures c.kept-step.ensures in
     let told = c.in_default.is in
     rw (c.whole.ensures, told) (first_refused _ _ (row-items) (length-kept) told)
 
@@ -53,7 +53,7 @@ returns c =
     let reached : Reached c.args.table.now c.args.at (u16 c.args.table.now (c.args.at + 6)) = counted-reached c.requires.0 c.requires.1 (λ e. let six : ◌≡◌ {A = ℕ} 4 6 = sym c.requires.1 ∙ e in absurd (omega arith)) in
     let length-kept : let a = c.args in
     Keeping (length_within 0 (u16 a.table.now (a.at + 4))) a.message.now a.room (state_at a.cursor a.values.now a.packed.now)
-    c.kept-step.new.1.0 c.kept-step.new.1.1.0 c.length-item.result c.kept-step.result = keeping _ (ap (length_within 0) c.count_at-most.ensures.0) c.length-item.ensures c.kept-step.ensures in
+    c.kept-step.new.packed c.kept-step.new.1.1.0 c.length-item.result c.kept-step.result = keeping _ (ap (length_within 0) c.count_at-most.ensures.0) c.length-item.ensures c.kept-step.ensures in
     rw (c.run_of.ensures, c.count_of.ensures, c.run_at-row.ensures.0)
     (begins-run c.args.at _ _ (reached)
     (first-kept _ _ (row-items) (length-kept) c.in-Past.is))

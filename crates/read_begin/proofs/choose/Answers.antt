@@ -39,7 +39,7 @@ pub branch_at-requires : goal.branch_at-requires
 branch_at-requires c =
     let index_kept : let a = c.args in
     Keeping (index (branches_at a.table.now (a.at + 6) (u16 a.table.now (a.at + 4)))) a.message.now a.room (state_at a.cursor a.values.now a.packed.now)
-    c.kept-step.new.1.0 c.kept-step.new.1.1.0 c.index-item.result c.kept-step.result = let a = c.args in
+    c.kept-step.new.packed c.kept-step.new.1.1.0 c.index-item.result c.kept-step.result = let a = c.args in
     keeping _ (ap (λ (m : ℕ). index (branches_at a.table.now (a.at + 6) m)) c.count_at-branches.ensures.0) c.index-item.ensures c.kept-step.ensures in
     let branch : Picked c.args.table.now c.args.at c.count_of.result = rw c.count_of.ensures
     (picked c.requires.0.row c.requires.1 (value_of c.index-item.result) (kept_allowed (index_kept) c.in-Past.is)) in
@@ -52,7 +52,7 @@ returns-in-Past c =
     asks-row (choice-opened c.requires.0 c.requires.1) ∙ asks-choice (asks_from t c.args.at) t c.args.at _ (choice_fits c.requires.0.row c.requires.1).is in
     let index_kept : let a = c.args in
     Keeping (index (branches_at a.table.now (a.at + 6) (u16 a.table.now (a.at + 4)))) a.message.now a.room (state_at a.cursor a.values.now a.packed.now)
-    c.kept-step.new.1.0 c.kept-step.new.1.1.0 c.index-item.result c.kept-step.result = let a = c.args in
+    c.kept-step.new.packed c.kept-step.new.1.1.0 c.index-item.result c.kept-step.result = let a = c.args in
     keeping _ (ap (λ (m : ℕ). index (branches_at a.table.now (a.at + 6) m)) c.count_at-branches.ensures.0) c.index-item.ensures c.kept-step.ensures in
     let branch : Picked c.args.table.now c.args.at c.count_of.result = rw c.count_of.ensures
     (picked c.requires.0.row c.requires.1 (value_of c.index-item.result) (kept_allowed (index_kept) c.in-Past.is)) in
@@ -67,6 +67,6 @@ returns-in-Refused c =
     asks-row (choice-opened c.requires.0 c.requires.1) ∙ asks-choice (asks_from t c.args.at) t c.args.at _ (choice_fits c.requires.0.row c.requires.1).is in
     let index_kept : let a = c.args in
     Keeping (index (branches_at a.table.now (a.at + 6) (u16 a.table.now (a.at + 4)))) a.message.now a.room (state_at a.cursor a.values.now a.packed.now)
-    c.kept-step.new.1.0 c.kept-step.new.1.1.0 c.index-item.result c.kept-step.result = let a = c.args in
+    c.kept-step.new.packed c.kept-step.new.1.1.0 c.index-item.result c.kept-step.result = let a = c.args in
     keeping _ (ap (λ (m : ℕ). index (branches_at a.table.now (a.at + 6) m)) c.count_at-branches.ensures.0) c.index-item.ensures c.kept-step.ensures in
     first_refused _ _ (row-items) (index_kept) c.in-Refused.is

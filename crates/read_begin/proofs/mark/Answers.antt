@@ -22,7 +22,7 @@ pub returns-in_default : goal.returns-in_default
 returns-in_default c =
     let bit_kept : let a = c.args in
     Keeping (number (pos 0) 1) a.message.now a.room (state_at a.cursor a.values.now a.packed.now)
-    c.kept-step.new.1.0 c.kept-step.new.1.1.0 c.number-item.result c.kept-step.result = keeping (number (pos 0) 1) refl c.number-item.ensures c.kept-step.ensures in
+    c.kept-step.new.packed c.kept-step.new.1.1.0 c.number-item.result c.kept-step.result = keeping (number (pos 0) 1) refl c.number-item.ensures c.kept-step.ensures in
     let told = c.in_default.is in
     rw (c.whole.ensures, told) (marks-refused c.if-flag-eq0.false (bit_kept) told)
 
@@ -30,7 +30,7 @@ pub returns-then-count_of-eq1 : goal.returns-then-count_of-eq1
 returns-then-count_of-eq1 c =
     let bit_kept : let a = c.args in
     Keeping (number (pos 0) 1) a.message.now a.room (state_at a.cursor a.values.now a.packed.now)
-    c.kept-step.new.1.0 c.kept-step.new.1.1.0 c.number-item.result c.kept-step.result = keeping (number (pos 0) 1) refl c.number-item.ensures c.kept-step.ensures in
+    c.kept-step.new.packed c.kept-step.new.1.1.0 c.number-item.result c.kept-step.result = keeping (number (pos 0) 1) refl c.number-item.ensures c.kept-step.ensures in
     let a = c.args in
     let odd : (a.mask * 2 + 1) % 2 ≡ 1 = omega arith in
     let one : count_of c.number-item.result ≡ 1 = sym c.count_of.ensures ∙ c.if-count_of-eq1.true in
@@ -40,7 +40,7 @@ pub returns : goal.returns
 returns c =
     let bit_kept : let a = c.args in
     Keeping (number (pos 0) 1) a.message.now a.room (state_at a.cursor a.values.now a.packed.now)
-    c.kept-step.new.1.0 c.kept-step.new.1.1.0 c.number-item.result c.kept-step.result = keeping (number (pos 0) 1) refl c.number-item.ensures c.kept-step.ensures in
+    c.kept-step.new.packed c.kept-step.new.1.1.0 c.number-item.result c.kept-step.result = keeping (number (pos 0) 1) refl c.number-item.ensures c.kept-step.ensures in
     let a = c.args in
     let even : (a.mask * 2) % 2 ≡ 0 = omega arith in
     marks-bit c.if-flag-eq0.false (bit_kept) a.mask (a.mask * 2) c.in-Past.is

@@ -29,7 +29,7 @@ count_at-most-requires c =
 -- the length, kept
 
 pub returns-in_default : goal.returns-in_default
-unfolding octets_length octets_length
+unfolding octets_length
 returns-in_default c =
     let row-items : let t = c.args.table.now in let at = c.args.at in
     octets_within (least_length (u16 t (at + 2))) (u16 t (at + 4)) ≡ ask (octets_length t at) (λ v. times (natural v) (one (number (pos 0) 255))) = refl in
@@ -37,12 +37,12 @@ returns-in_default c =
     length_within c.least_length-least.result c.count_at-most.result ≡ octets_length a.table.now a.at = rw (c.least_length-least.ensures, c.kind_at-kind.ensures.0, c.count_at-most.ensures.0) in
     let length-kept : let a = c.args in
     Keeping (octets_length a.table.now a.at) a.message.now a.room (state_at a.cursor a.values.now a.packed.now)
-    c.kept-step.new.1.0 c.kept-step.new.1.1.0 c.length-item.result c.kept-step.result = keeping _ (length-asked) c.length-item.ensures c.kept-step.ensures in
+    c.kept-step.new.packed c.kept-step.new.1.1.0 c.length-item.result c.kept-step.result = keeping _ (length-asked) c.length-item.ensures c.kept-step.ensures in
     let told = c.in_default.is in
     rw told (first_refused _ _ (row-items) (length-kept) told)
 
 pub returns : goal.returns
-unfolding octets_length octets_length
+unfolding octets_length
 returns c =
     let row-items : let t = c.args.table.now in let at = c.args.at in
     octets_within (least_length (u16 t (at + 2))) (u16 t (at + 4)) ≡ ask (octets_length t at) (λ v. times (natural v) (one (number (pos 0) 255))) = refl in
@@ -50,5 +50,5 @@ returns c =
     length_within c.least_length-least.result c.count_at-most.result ≡ octets_length a.table.now a.at = rw (c.least_length-least.ensures, c.kind_at-kind.ensures.0, c.count_at-most.ensures.0) in
     let length-kept : let a = c.args in
     Keeping (octets_length a.table.now a.at) a.message.now a.room (state_at a.cursor a.values.now a.packed.now)
-    c.kept-step.new.1.0 c.kept-step.new.1.1.0 c.length-item.result c.kept-step.result = keeping _ (length-asked) c.length-item.ensures c.kept-step.ensures in
+    c.kept-step.new.packed c.kept-step.new.1.1.0 c.length-item.result c.kept-step.result = keeping _ (length-asked) c.length-item.ensures c.kept-step.ensures in
     (first-kept _ _ (row-items) (length-kept) c.in-Past.is).complete _ _ _ (rw c.count_of-count.ensures at c.read_octets.ensures)

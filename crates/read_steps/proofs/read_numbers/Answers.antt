@@ -47,7 +47,7 @@ returns-in_default c =
     run_first (code_in c) (count - done) (count - (done + 1)) more in
     let number-kept : let a = c.args in
     Keeping (code_in c) a.message.now a.room (state_at c.loop-done.here c.loop-done.values c.loop-done.packed)
-    c.kept-step.new.1.0 c.kept-step.new.1.1.0 c.number-item.result c.kept-step.result = keeping _ refl c.number-item.ensures c.kept-step.ensures in
+    c.kept-step.new.packed c.kept-step.new.1.1.0 c.number-item.result c.kept-step.result = keeping _ refl c.number-item.ensures c.kept-step.ensures in
     let told = c.in_default.is in
     let a = c.args in
     let same = continues_same (code-held a.count a.low a.span c.requires.1) in
@@ -62,7 +62,7 @@ loop-done-preserved c =
     run_first (code_in c) (count - done) (count - (done + 1)) more in
     let number-kept : let a = c.args in
     Keeping (code_in c) a.message.now a.room (state_at c.loop-done.here c.loop-done.values c.loop-done.packed)
-    c.kept-step.new.1.0 c.kept-step.new.1.1.0 c.number-item.result c.kept-step.result = keeping _ refl c.number-item.ensures c.kept-step.ensures in
+    c.kept-step.new.packed c.kept-step.new.1.1.0 c.number-item.result c.kept-step.result = keeping _ refl c.number-item.ensures c.kept-step.ensures in
     (omega arith, search rules, search rules, continues-trans c.loop-done.invariant.3 (first-kept (code_in c) _ (run_more) (number-kept) c.in-Past.is))
 
 pub returns : goal.returns

@@ -29,7 +29,7 @@ clear_values-requires c =
     let n = length a.values.now in
     let o = message_outcome a.table.now a.message.now n in
     let k : c.kept_count-kept.result ≡ length (read_values o) = c.kept_count-kept.ensures ∙ ap kept_count c.read_passed-answer.ensures.0 ∙ count-is o in
-    omega (arith, message_fits (asks a.table.now) a.message.now n, c.read_passed-answer.auto.1.1.1.0)
+    omega (arith, message_fits (asks a.table.now) a.message.now n, c.read_passed-answer.auto.packed)
 
 pub shape_of-values : goal.shape_of-values
 shape_of-values c = search rules
@@ -41,4 +41,4 @@ returns c =
     let o = message_outcome a.table.now a.message.now n in
     let k : c.kept_count-kept.result ≡ length (read_values o) = c.kept_count-kept.ensures ∙ ap kept_count c.read_passed-answer.ensures.0 ∙ count-is o in
     rw (passed-outcome a.table.now a.message.now n c.requires.0)
-    (c.read_passed-answer.ensures.0, c.clear_values.ensures ∙ rw k (settled-values o a.values.now _ (message_fits (asks a.table.now) a.message.now n) c.read_passed-answer.auto.1.1.1.0 c.read_passed-answer.ensures.1))
+    (c.read_passed-answer.ensures.0, c.clear_values.ensures ∙ rw k (settled-values o a.values.now _ (message_fits (asks a.table.now) a.message.now n) c.read_passed-answer.auto.packed c.read_passed-answer.ensures.1))

@@ -31,11 +31,12 @@ pub returns-in_default : goal.returns-in_default
 unfolding row_of known_kind
 returns-in_default c =
     let a = c.args in
-    let no = c.in-1.rest in
+    let no = c.in_default.rest in
     kind-broken a.table.now a.at (spread a.depths.now) c.length_at-size.result c.length_at-size.ensures.0 c.kind_at-kind.result c.kind_at-kind.ensures.0 (omega arith) (omega arith)
     (sym (known_kind_lem a.table.now a.at c.kind_at-kind.result) ∙ simp (ne_eqb _ _ no.1, ne_eqb _ _ no.0.1, ne_eqb _ _ no.0.0.1, ne_eqb _ _ no.0.0.0.1, ne_eqb _ _ no.0.0.0.0.1, ne_eqb _ _ no.0.0.0.0.0.1, ne_eqb _ _ no.0.0.0.0.0.0.1, ne_eqb _ _ no.0.0.0.0.0.0.0.1))
 
 pub kind_test-requires : goal.kind_test-requires
+unfolding within
 kind_test-requires c =
     let headed : (k : ℕ) → c.kind_at-kind.result ≡ k → within 1 8 k ≡ true → (length c.args.table.now ≤ 4096) × Headed c.args.table.now c.args.at c.length_at-size.result k = λ k e known. ((
   c.requires.1,
@@ -49,6 +50,7 @@ kind_test-requires c =
     headed 1 c.in-1.is refl
 
 pub kind_test-requires-in-2 : goal.kind_test-requires-in-2
+unfolding within
 kind_test-requires-in-2 c =
     let headed : (k : ℕ) → c.kind_at-kind.result ≡ k → within 1 8 k ≡ true → (length c.args.table.now ≤ 4096) × Headed c.args.table.now c.args.at c.length_at-size.result k = λ k e known. ((
   c.requires.1,
@@ -62,6 +64,7 @@ kind_test-requires-in-2 c =
     headed 2 c.in-2.is refl
 
 pub kind_test-requires-in-3 : goal.kind_test-requires-in-3
+unfolding within
 kind_test-requires-in-3 c =
     let headed : (k : ℕ) → c.kind_at-kind.result ≡ k → within 1 8 k ≡ true → (length c.args.table.now ≤ 4096) × Headed c.args.table.now c.args.at c.length_at-size.result k = λ k e known. ((
   c.requires.1,
@@ -75,6 +78,7 @@ kind_test-requires-in-3 c =
     headed 3 c.in-3.is refl
 
 pub kind_test-requires-in-4 : goal.kind_test-requires-in-4
+unfolding within
 kind_test-requires-in-4 c =
     let headed : (k : ℕ) → c.kind_at-kind.result ≡ k → within 1 8 k ≡ true → (length c.args.table.now ≤ 4096) × Headed c.args.table.now c.args.at c.length_at-size.result k = λ k e known. ((
   c.requires.1,
@@ -88,6 +92,7 @@ kind_test-requires-in-4 c =
     headed 4 c.in-4.is refl
 
 pub kind_test-requires-in-5 : goal.kind_test-requires-in-5
+unfolding within
 kind_test-requires-in-5 c =
     let headed : (k : ℕ) → c.kind_at-kind.result ≡ k → within 1 8 k ≡ true → (length c.args.table.now ≤ 4096) × Headed c.args.table.now c.args.at c.length_at-size.result k = λ k e known. ((
   c.requires.1,
@@ -101,6 +106,7 @@ kind_test-requires-in-5 c =
     headed 5 c.in-5.is refl
 
 pub kind_test-requires-in-6 : goal.kind_test-requires-in-6
+unfolding within
 kind_test-requires-in-6 c =
     let headed : (k : ℕ) → c.kind_at-kind.result ≡ k → within 1 8 k ≡ true → (length c.args.table.now ≤ 4096) × Headed c.args.table.now c.args.at c.length_at-size.result k = λ k e known. ((
   c.requires.1,
@@ -114,6 +120,7 @@ kind_test-requires-in-6 c =
     headed 6 c.in-6.is refl
 
 pub kind_test-requires-in-7 : goal.kind_test-requires-in-7
+unfolding within
 kind_test-requires-in-7 c =
     let headed : (k : ℕ) → c.kind_at-kind.result ≡ k → within 1 8 k ≡ true → (length c.args.table.now ≤ 4096) × Headed c.args.table.now c.args.at c.length_at-size.result k = λ k e known. ((
   c.requires.1,
@@ -127,6 +134,7 @@ kind_test-requires-in-7 c =
     headed 7 c.in-7.is refl
 
 pub kind_test-requires-in-8 : goal.kind_test-requires-in-8
+unfolding within
 kind_test-requires-in-8 c =
     let headed : (k : ℕ) → c.kind_at-kind.result ≡ k → within 1 8 k ≡ true → (length c.args.table.now ≤ 4096) × Headed c.args.table.now c.args.at c.length_at-size.result k = λ k e known. ((
   c.requires.1,

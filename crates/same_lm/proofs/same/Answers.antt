@@ -27,10 +27,10 @@ returns-then-not-same_answer c =
 pub returns : goal.returns
 returns c =
     let slices : let a = c.args in
-    length a.named.now ≡ length a.plainly.now → c.read_lm-one.new.1.0 ≡ c.read_lm-other.new.1.0 = λ e. (let a = c.args in
+    length a.named.now ≡ length a.plainly.now → c.read_lm-one.new.values ≡ c.read_lm-other.new.values = λ e. (let a = c.args in
     c.read_lm-one.ensures.1 ∙ ap (λ n. values_after n (read_lm_outcome a.message.now n)) e ∙ sym c.read_lm-other.ensures.1) in
     let one-length : let a = c.args in
-    c.read_lm-one.new.1.0 ≡ c.read_lm-other.new.1.0 → length a.named.now ≡ length a.plainly.now = λ e. (sym c.read_lm-one.auto.1.0 ∙ ap length e ∙ c.read_lm-other.auto.1.0) in
+    c.read_lm-one.new.values ≡ c.read_lm-other.new.values → length a.named.now ≡ length a.plainly.now = λ e. (sym c.read_lm-one.auto.values ∙ ap length e ∙ c.read_lm-other.auto.values) in
     (
       (λ e. one-length (c.same_values.ensures.0 e), λ e. c.same_values.ensures.1 (slices e)),
       c.read_lm-one.ensures.1,

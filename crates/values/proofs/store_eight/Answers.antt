@@ -17,4 +17,4 @@ shape_of-octets c = search rules
 
 pub returns : goal.returns
 returns c =
-    sets-eight c.args.octets.now c.args.at c.args.number c.store_four.new.0 c.store_four-2.new.0 c.store_four.ensures c.store_four-2.ensures
+    sets-eight c.args.octets.now c.args.at c.args.number c.store_four.new.octets c.store_four-2.new.octets c.store_four.ensures c.store_four-2.ensures

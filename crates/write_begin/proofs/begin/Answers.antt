@@ -34,7 +34,7 @@ octets-requires c =
     let t = c.args.table.now in
     let kind = c.args.at + 2 in
     let k = c.kind_at-kind.ensures.0 in
-    let r = c.in-1.rest in (
+    let r = c.in_default.rest in (
       c.requires.0,
       c.requires.1,
       last_kind c.requires.0 c.requires.1

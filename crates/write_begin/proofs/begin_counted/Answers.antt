@@ -47,7 +47,7 @@ returns-in_default-step c =
     let value-held : to_z w64 (of_z w64 c.in-Value.value) ≡ c.in-Value.value = held c.in-Value.value c.known_told-1.given-1.0.1 in
     let value-put : let a = c.args in
     Putting (length_within 0 (u16 a.table.now (a.at + 4))) (list_in a.values.now a.packed.now) (state_at a.cursor a.output.now)
-    c.length-put.new.0 c.in-Value.value c.moved-step.result = putting _ c.next_value-given.result c.length-put.result _ _ (ap (length_within 0) c.count_at-most.ensures.0)
+    c.length-put.new.output c.in-Value.value c.moved-step.result = putting _ c.next_value-given.result c.length-put.result _ _ (ap (length_within 0) c.count_at-most.ensures.0)
     c.next_value-given.ensures c.in-Value.is (value-held) c.length-put.ensures c.moved-step.ensures in
     rw (c.whole.ensures, c.in_default-step.is) (first_refused _ _ (row-items) (value-put) c.in_default-step.is)
 
@@ -64,7 +64,7 @@ returns c =
     let value-held : to_z w64 (of_z w64 c.in-Value.value) ≡ c.in-Value.value = held c.in-Value.value c.known_told-1.given-1.0.1 in
     let value-put : let a = c.args in
     Putting (length_within 0 (u16 a.table.now (a.at + 4))) (list_in a.values.now a.packed.now) (state_at a.cursor a.output.now)
-    c.length-put.new.0 c.in-Value.value c.moved-step.result = putting _ c.next_value-given.result c.length-put.result _ _ (ap (length_within 0) c.count_at-most.ensures.0)
+    c.length-put.new.output c.in-Value.value c.moved-step.result = putting _ c.next_value-given.result c.length-put.result _ _ (ap (length_within 0) c.count_at-most.ensures.0)
     c.next_value-given.ensures c.in-Value.is (value-held) c.length-put.ensures c.moved-step.ensures in
     rw (c.run_of.ensures, rw (value-held) at c.count_of.ensures, c.run_at-row.ensures.0)
     (begins-run c.requires.0 c.args.at _ _ c.requires.1.1 (counted-row c.requires.0 c.requires.1 c.requires.2).2

@@ -43,7 +43,7 @@ returns-in_default c =
     (omega (arith, c.loop-field-test.true), omega (arith, c.loop-field-test.true, (row-at).inside)) in
     let a = c.args in
     no-mark a.table.now a.at c.loop-field.field _ c.loop-field.mask (in_row).0 c.loop-field.invariant.2 c.flag_at-flag.ensures.0 c.loop-field.invariant.3
-    c.mark-begun.result _ c.in-Fields.keys2 c.mark-begun.ensures
+    c.mark-begun.result _ c.in_default.keys2 c.mark-begun.ensures
 
 pub loop-field-preserved : goal.loop-field-preserved
 loop-field-preserved c =

@@ -52,7 +52,7 @@ branch_at-requires c =
     let value-held : to_z w64 (of_z w64 c.in-Value.value) ≡ c.in-Value.value = held c.in-Value.value c.known_told-1.given-1.0.1 in
     let value-put : let a = c.args in
     Putting (index (branches_at a.table.now (a.at + 6) (u16 a.table.now (a.at + 4)))) (list_in a.values.now a.packed.now) (state_at a.cursor a.output.now)
-    c.index-put.new.0 c.in-Value.value c.moved-step.result = let a = c.args in
+    c.index-put.new.output c.in-Value.value c.moved-step.result = let a = c.args in
     putting _ c.next_value-given.result c.index-put.result _ _ (ap (λ (m : ℕ). index (branches_at a.table.now (a.at + 6) m)) c.count_at-branches.ensures.0)
     c.next_value-given.ensures c.in-Value.is (value-held) c.index-put.ensures c.moved-step.ensures in
     let branch : Chosen c.args.table.now c.args.at c.count_of.result = let v = c.in-Value.value in
@@ -67,7 +67,7 @@ returns-in-Past c =
     let value-held : to_z w64 (of_z w64 c.in-Value.value) ≡ c.in-Value.value = held c.in-Value.value c.known_told-1.given-1.0.1 in
     let value-put : let a = c.args in
     Putting (index (branches_at a.table.now (a.at + 6) (u16 a.table.now (a.at + 4)))) (list_in a.values.now a.packed.now) (state_at a.cursor a.output.now)
-    c.index-put.new.0 c.in-Value.value c.moved-step.result = let a = c.args in
+    c.index-put.new.output c.in-Value.value c.moved-step.result = let a = c.args in
     putting _ c.next_value-given.result c.index-put.result _ _ (ap (λ (m : ℕ). index (branches_at a.table.now (a.at + 6) m)) c.count_at-branches.ensures.0)
     c.next_value-given.ensures c.in-Value.is (value-held) c.index-put.ensures c.moved-step.ensures in
     let branch : Chosen c.args.table.now c.args.at c.count_of.result = let v = c.in-Value.value in
@@ -85,7 +85,7 @@ returns-in-Refused c =
     let value-held : to_z w64 (of_z w64 c.in-Value.value) ≡ c.in-Value.value = held c.in-Value.value c.known_told-1.given-1.0.1 in
     let value-put : let a = c.args in
     Putting (index (branches_at a.table.now (a.at + 6) (u16 a.table.now (a.at + 4)))) (list_in a.values.now a.packed.now) (state_at a.cursor a.output.now)
-    c.index-put.new.0 c.in-Value.value c.moved-step.result = let a = c.args in
+    c.index-put.new.output c.in-Value.value c.moved-step.result = let a = c.args in
     putting _ c.next_value-given.result c.index-put.result _ _ (ap (λ (m : ℕ). index (branches_at a.table.now (a.at + 6) m)) c.count_at-branches.ensures.0)
     c.next_value-given.ensures c.in-Value.is (value-held) c.index-put.ensures c.moved-step.ensures in
     first_refused _ _ (row-items) (value-put) c.in-Refused.is

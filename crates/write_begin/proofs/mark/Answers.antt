@@ -33,7 +33,7 @@ returns-in_default-step c =
     let value-held : to_z w64 (of_z w64 c.in-Value.value) ≡ c.in-Value.value = held c.in-Value.value c.known_told-1.given-1.0.1 in
     let value-put : let a = c.args in
     Putting (number (pos 0) 1) (list_in a.values.now a.packed.now) (state_at a.cursor a.output.now)
-    c.number-put.new.0 c.in-Value.value c.moved-step.result = putting (number (pos 0) 1) c.next_value-given.result c.number-put.result _ _ refl c.next_value-given.ensures c.in-Value.is (value-held) c.number-put.ensures c.moved-step.ensures in
+    c.number-put.new.output c.in-Value.value c.moved-step.result = putting (number (pos 0) 1) c.next_value-given.result c.number-put.result _ _ refl c.next_value-given.ensures c.in-Value.is (value-held) c.number-put.ensures c.moved-step.ensures in
     rw (c.whole.ensures, c.in_default-step.is)
     (marks-refused c.if-flag-eq0.false (value-put) c.in_default-step.is)
 
@@ -42,7 +42,7 @@ returns-then-count_of-eq1 c =
     let value-held : to_z w64 (of_z w64 c.in-Value.value) ≡ c.in-Value.value = held c.in-Value.value c.known_told-1.given-1.0.1 in
     let value-put : let a = c.args in
     Putting (number (pos 0) 1) (list_in a.values.now a.packed.now) (state_at a.cursor a.output.now)
-    c.number-put.new.0 c.in-Value.value c.moved-step.result = putting (number (pos 0) 1) c.next_value-given.result c.number-put.result _ _ refl c.next_value-given.ensures c.in-Value.is (value-held) c.number-put.ensures c.moved-step.ensures in
+    c.number-put.new.output c.in-Value.value c.moved-step.result = putting (number (pos 0) 1) c.next_value-given.result c.number-put.result _ _ refl c.next_value-given.ensures c.in-Value.is (value-held) c.number-put.ensures c.moved-step.ensures in
     let a = c.args in
     let odd : (a.mask * 2 + 1) % 2 ≡ 1 = omega arith in
     let one : natural c.in-Value.value ≡ 1 = sym (rw (value-held) at c.count_of.ensures) ∙ c.if-count_of-eq1.true in
@@ -54,7 +54,7 @@ returns c =
     let value-held : to_z w64 (of_z w64 c.in-Value.value) ≡ c.in-Value.value = held c.in-Value.value c.known_told-1.given-1.0.1 in
     let value-put : let a = c.args in
     Putting (number (pos 0) 1) (list_in a.values.now a.packed.now) (state_at a.cursor a.output.now)
-    c.number-put.new.0 c.in-Value.value c.moved-step.result = putting (number (pos 0) 1) c.next_value-given.result c.number-put.result _ _ refl c.next_value-given.ensures c.in-Value.is (value-held) c.number-put.ensures c.moved-step.ensures in
+    c.number-put.new.output c.in-Value.value c.moved-step.result = putting (number (pos 0) 1) c.next_value-given.result c.number-put.result _ _ refl c.next_value-given.ensures c.in-Value.is (value-held) c.number-put.ensures c.moved-step.ensures in
     let a = c.args in
     let even : (a.mask * 2) % 2 ≡ 0 = omega arith in
     let count = rw (value-held) at c.count_of.ensures in

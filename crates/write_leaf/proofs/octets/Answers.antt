@@ -48,7 +48,7 @@ returns-in_default-step c =
     let value-held : to_z w64 (of_z w64 c.in-Value.value) ≡ c.in-Value.value = held c.in-Value.value c.known_told-1.given-1.0.1 in
     let value-put : let a = c.args in
     Putting (octets_length a.table.now a.at) (list_in a.values.now a.packed.now) (state_at a.cursor a.output.now)
-    c.length-put.new.0 c.in-Value.value c.moved-step.result = putting _ c.next_value-given.result c.length-put.result _ _ (length-asked)
+    c.length-put.new.output c.in-Value.value c.moved-step.result = putting _ c.next_value-given.result c.length-put.result _ _ (length-asked)
     c.next_value-given.ensures c.in-Value.is (value-held) c.length-put.ensures c.moved-step.ensures in
     rw c.in_default-step.is (first_refused _ _ (row-items) (value-put) c.in_default-step.is)
 
@@ -62,6 +62,6 @@ returns c =
     let value-held : to_z w64 (of_z w64 c.in-Value.value) ≡ c.in-Value.value = held c.in-Value.value c.known_told-1.given-1.0.1 in
     let value-put : let a = c.args in
     Putting (octets_length a.table.now a.at) (list_in a.values.now a.packed.now) (state_at a.cursor a.output.now)
-    c.length-put.new.0 c.in-Value.value c.moved-step.result = putting _ c.next_value-given.result c.length-put.result _ _ (length-asked)
+    c.length-put.new.output c.in-Value.value c.moved-step.result = putting _ c.next_value-given.result c.length-put.result _ _ (length-asked)
     c.next_value-given.ensures c.in-Value.is (value-held) c.length-put.ensures c.moved-step.ensures in
     (first_put _ _ (row-items) (value-put) c.in-Past.is).complete _ _ (rw (rw (value-held) at c.count_of-count.ensures) at c.write_octets.ensures)

@@ -36,7 +36,7 @@ loop-done-preserved c =
     let at = 8 * (a.at + c.loop-done.done) + a.into in (
       omega arith,
       search rules,
-      puts_one (values_in a.packed.now) a.index a.output.now (8 * a.at + a.into) c.loop-done.output c.put_octet-last.new.0 c.loop-done.done at _ c.loop-done.invariant.2
+      puts_one (values_in a.packed.now) a.index a.output.now (8 * a.at + a.into) c.loop-done.output c.put_octet-last.new.output c.loop-done.done at _ c.loop-done.invariant.2
           (sym (to_z-of_z {w = w64} (record { sfits = c.value_in-value.type_inv }) ∙ c.value_in-value.ensures)) is (omega arith) (omega arith)
           (c.put_octet-last.ensures.0 ∙ ap (λ (o : ℕ). overwritten (unpack c.loop-done.output) at (bits_of 8 o)) c.octet_of.ensures),
       λ h. rw (← next) (c.put_octet-last.ensures.1 h),

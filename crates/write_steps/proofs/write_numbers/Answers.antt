@@ -49,7 +49,7 @@ returns-in_default-step c =
     let low_held : to_z w64 (of_z w64 c.args.low) ≡ c.args.low = held c.args.low (omega arith) in
     let value-put : let a = c.args in
     Putting (code c) (list_in a.values.now a.packed.now) (state_at c.loop-done.here c.loop-done.output)
-    c.number-put.new.0 c.in-Value.value c.moved-step.result = putting _ c.next_value-given.result c.number-put.result _ _ refl c.next_value-given.ensures c.in-Value.is
+    c.number-put.new.output c.in-Value.value c.moved-step.result = putting _ c.next_value-given.result c.number-put.result _ _ refl c.next_value-given.ensures c.in-Value.is
     (held c.in-Value.value c.known_told-1.given-1.0.1) c.number-put.ensures c.moved-step.ensures in
     let count = c.args.count in
     rw (c.in_default-step.is, ← low_held)
@@ -61,7 +61,7 @@ pub loop-done-preserved : goal.loop-done-preserved
 loop-done-preserved c =
     let value-put : let a = c.args in
     Putting (code c) (list_in a.values.now a.packed.now) (state_at c.loop-done.here c.loop-done.output)
-    c.number-put.new.0 c.in-Value.value c.moved-step.result = putting _ c.next_value-given.result c.number-put.result _ _ refl c.next_value-given.ensures c.in-Value.is
+    c.number-put.new.output c.in-Value.value c.moved-step.result = putting _ c.next_value-given.result c.number-put.result _ _ refl c.next_value-given.ensures c.in-Value.is
     (held c.in-Value.value c.known_told-1.given-1.0.1) c.number-put.ensures c.moved-step.ensures in
     let count = c.args.count in (
       search rules,
