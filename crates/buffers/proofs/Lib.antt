@@ -1,2 +1,3 @@
 pub mod AtHand
+mod Moving
 pub mod Tags

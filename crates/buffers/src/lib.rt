@@ -6,6 +6,8 @@ ghost use Rattle.std.specs.Prelude.{◌+◌, ◌-◌, ◌<◌, ◌≤◌, ◌≡
 ghost use Rattle.buffers.specs.Held.{Held, HeldAfter, held_behind};
 ghost use Rattle.buffers.specs.InputOutput.{Wrote, Read, after_write, after_read};
 
+use std::io::{Read, Stdin};
+
 // The sizes of the buffers: a unit has at most 65,535 octets, and a line of 1,024 values fewer than 22,600.
 pub const INPUT: usize = 65536;
 
@@ -91,9 +93,22 @@ fn after_read(s: State, have: usize, count: usize) -> Led
     }
 }
 
+// Reads octets of the input behind the first so many, and tells how many: none at the input's end, and none where it can't be read.
+fn read_behind(source: Stdin, input: &mut [u8], have: usize) -> usize
+    requires { have ≤ length input.old }
+    ensures kept { take have input.new ≡ take have input.old }
+    ensures within { have + result ≤ length input.old }
+{
+    let mut source = source;
+    match source.read(&mut input[have..]) {
+        Ok(count) => count,
+        Err(_) => 0,
+    }
+}
+
 // Writes the lines that are held and, where the output took them, reads more of the input behind the octets at hand. There is
 // room for some, so that none read is the input's end.
-pub fn more(input: &mut [u8], output: &[u8], s: State) -> Led
+pub fn more(source: Stdin, input: &mut [u8], output: &[u8], s: State) -> Led
     requires { Held s × (s.end < s.from + 65535) × (length input.old ≡ 65536) × (length output.now ≡ 65536) }
     ensures { HeldAfter result × Read s input.old input.new result }
 {
@@ -105,7 +120,6 @@ pub fn more(input: &mut [u8], output: &[u8], s: State) -> Led
     let end = s.end;
     move_down(input, from, end);
     let have = end - from;
-    let got = libc::read(0, &mut input[have..]);
-    let count = io::count(got, &input[have..]);
+    let count = read_behind(source, input, have);
     after_read(next, have, count)
 }

@@ -2,11 +2,10 @@
 // standard output, and the count of records last.
 #![tactic(auto)]
 
-
-fn main() {
+fn main(rt: HostRuntime) {
     let mut input = [0u8; buffers::INPUT];
     let mut output = [0u8; buffers::OUTPUT];
     let mut values = [0i64; programs::VALUES];
-    let end = stream::answer_capture(&mut input, &mut output, &mut values);
+    let end = stream::answer_capture(rt.stdin(), &mut input, &mut output, &mut values);
     buffers::write(&output, end);
 }

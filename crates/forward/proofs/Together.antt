@@ -20,7 +20,7 @@ use Rattle.seen.specs.Records.{holds, first_with, first_free, record_of}
 use Rattle.seen.specs.Search.{wanted_by}
 use Rattle.seen.proofs.Searches.{not_held}
 use Rattle.forward.specs.Forward.{subtype, version, message_id, hop_count, forward_answer, seen_by, seen_after}
-use Rattle.forward.specs.Parts.{refused_head, head_if, head_of, ask_of, step_if, chosen, decided, step_of, kept_by, Emits}
+use Rattle.forward.specs.Parts.{refused_head, head_if, head_of, ask_of, step_if, chosen, step_of, kept_by, Emits}
 use Rattle.forward.specs.declared.Head.{Head}
 use Rattle.forward.specs.declared.Head.TheVariants.{Id}
 use Rattle.forward.specs.declared.Ask.{Ask}

@@ -2,30 +2,28 @@
 -- Assumes nothing.
 use Prim.Native.Nat.{ℕ, ◌+◌, ◌≤◌, ◌<◌}
 use mathlib.Core.Bool.{Bool, true, false, ◌&&◌, false≢true}
-use mathlib.Core.Path.{◌≡◌, refl, sym, ap, ◌∙◌, fun_ext, subst}
+use mathlib.Core.Path.{◌≡◌, refl, sym, ◌∙◌, fun_ext, subst}
 use mathlib.Core.List.{List}
 use native.Mathlib.Omega.{arith}
 use lib.Dec.{leb, eqb}
-use lib.ListN.{length, get_or}
+use lib.ListN.{length}
 use borrow.Author.Tests.{leb-true, leb-false, le-leb, lt-leb}
-use lib.IntN.{pos}
 use Rattle.octets.specs.Numbers.{u16, u32, signed, there}
 use Rattle.item.specs.Code.{number, variable}
-use Rattle.row.specs.Rows.{Choice, row_at}
+use Rattle.row.specs.Rows.{row_at}
 use Rattle.row.specs.Kinds.{is_octets, least_length, may_reserve}
-use Rattle.row.specs.Fits.{Fits}
 use Rattle.row.proofs.Fits.{number_fits, variable_fits, choice_fits, octets_fits}
 use Rattle.row.proofs.Offsets.{earlier_is}
-use Rattle.rules.specs.Rules.{All, Obeys, Starts, references}
+use Rattle.rules.specs.Rules.{Obeys, Starts, references}
 use Rattle.table.proofs.Obeyed.{all-at, earlier-starts, row_fits}
-use Rattle.items.specs.Items.{Items, stop, one}
+use Rattle.items.specs.Items.{stop, one}
 use Rattle.encoding.specs.Rows.{octets_within, row_items, items, behind}
 use Rattle.encoding.specs.Guarded.{fits, leads, opens, never, from, guarded}
 use Rattle.encoding.proofs.RowItems.{items-row, asks-number, asks-variable, asks-octets}
 use Rattle.encoding.proofs.Guarded.{fits_row, leads-earlier, leads_fits, there_unreserved, no_choice_unreserved, from_leads, from_stays, guarded-row, guarded_never, opens-each, choice-kind_of}
 use Rattle.parts.specs.Parts.{NoChoice, Refers}
 use Rattle.parts.proofs.Choices.{refers-earlier}
-use Rattle.guard.specs.Readable.{is_table, asks_at, asks_from, Readable, Opened, Tested}
+use Rattle.guard.specs.Readable.{asks_at, asks_from, Readable, Opened, Tested}
 
 -- ── the two kinds of slices ──
 

@@ -30,6 +30,7 @@ fn kind_fits(state: &[u8], at: usize, kind: usize) -> bool
 }
 
 // Whether the row at an offset can be read. An arm for each kind lets the compiler settle what goes by the kind.
+#[tactic(auto, unfolding(row::specs::Rows::within))]
 pub fn fits(state: &[u8], at: usize) -> bool
     requires { 6144 ≤ length state.now }
     ensures { result ≡ fits state.now at }

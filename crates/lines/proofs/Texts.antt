@@ -27,14 +27,6 @@ put_both {first} {second} {third} {at} {next} {end} {s} {t} p q =
 pub put-octet : (out : List ℕ) (at octet : ℕ) → at < length out → Appended out at (octet ∷ []) (set out at octet) (suc at)
 put-octet out at octet h = record { counted = omega arith; told = take-suc-set out at octet h }
 
--- one octet more of a text
-pub put_more : {before out : List ℕ} {at : ℕ} (text : List ℕ) (i : ℕ) → i < length text → at + i < length out
-    → Appended before at (take i text) out (at + i)
-    → Appended before at (take (i + 1) text) (set out (at + i) (get_or text i 0)) (at + (i + 1))
-put_more {before} {out} {at} text i h room p =
-    let e : at + (i + 1) ≡ suc (at + i) = omega arith in
-    rw (e, add-one i, take-suc text i 0 h) (put_both p (put-octet out (at + i) (get_or text i 0) room))
-
 -- ---- values in order
 
 pub listed-append : (us vs : List ℤ) → listed (us ++ vs) ≡ listed us ++ listed vs

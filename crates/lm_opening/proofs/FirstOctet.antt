@@ -35,6 +35,9 @@ module _ {m : List ℕ} {p x : ℕ} {q : BitPlace} (octet : Octet m p x q) where
   pub octet_end : q.0 ≡ p + 8
   octet_end = (fetched-Bits m p 8 x q octet.fetches).2
 
+  pub octet-after : {to : ℕ} → p % 8 ≡ 0 → to ≡ q.0 → to % 8 ≡ 0
+  octet-after on_octet e = omega (arith, octet_end)
+
   -- the index n in its first k bits, with t behind them
   module _ (branches : List Bool) (n k t : ℕ) (w : index_width branches ≡ k) (some : 0 < k) (split : 0 + k + t ≡ 8) (cut : x / 2 ^ t % 2 ^ k ≡ n) where
     index_is : item_at (index branches) m p ≡ cond (get_or branches n false) (Value (pos n) (place_at (p + k))) (Bad (refusal_at no_branch p))

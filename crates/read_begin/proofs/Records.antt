@@ -1,15 +1,13 @@
 -- A record's fields marked one after another, as the reader goes about them.
 -- Assumes nothing.
 use Prim.Native.Nat.{ℕ, ◌+◌, ◌*◌, ◌^◌, ◌<◌}
-use mathlib.Core.Path.{◌≡◌}
-use mathlib.Core.List.{List, [], ◌∷◌}
+use mathlib.Core.Logic.{◌≢◌}
+use mathlib.Core.Path.{◌≡◌, refl}
+use mathlib.Core.List.{List}
 use lib.IntN.{ℤ}
-use types.Run.{OneOf, miss}
-use denote.Enum.Declared.{tag_of}
 use Rattle.octets.specs.Numbers.{u16}
 use Rattle.guard.specs.Readable.{asks_at, asks_from}
 use Rattle.parts.proofs.Records.{left_after, flags_behind, fields_behind, record-flag, record-marked}
-use Rattle.read_begin.specs.contracts.Begun.{the_type}
 use Rattle.read_steps.specs.declared.Cursor.{Cursor}
 use Rattle.read_begin.specs.declared.Begun.{Begun}
 use Rattle.read_begin.specs.declared.Begun.TheVariants.{Done, Run, Numbers, Fields, Refused}
@@ -30,11 +28,11 @@ module _ {message : List ℕ} {room : ℕ} {start here : State} (t : List ℕ) (
       (continues-trans (m.1 (flags_behind (asks_from t o) t o i) (fields_behind (asks_from t o) t o i mask)) (continues_same (record-marked (asks_from t o) t o i mask marked inside small m.0))))
 
   -- what marking gave is no mark, so that it is a refusal, which ends the record
-  pub no-mark : (begun : Begun) (values : List ℤ) (packed : List ℕ) → OneOf (0 ∷ 1 ∷ 2 ∷ 4 ∷ []) (tag_of the_type begun)
+  pub no-mark : (begun : Begun) (values : List ℤ) (packed : List ℕ) → ((marked : ℕ) (next : Cursor) → begun ≢ Fields marked next)
       → Marks flag mask message room here values packed begun → Begins t o message room (asks_at t o) start values packed begun
   no-mark (Done to) values packed k m = absurd m
   no-mark (Run count row to) values packed k m = absurd m
   no-mark (Numbers count row to) values packed k m = absurd m
-  no-mark (Fields marked to) values packed k m = absurd (miss (0 ∷ 1 ∷ 2 ∷ 4 ∷ []) 3 tt k)
+  no-mark (Fields marked to) values packed k m = absurd (k marked to refl)
   no-mark (Refused refusal) values packed k m =
       (continues-trans so_far (continues_same (record-flag (asks_from t o) t o i flag mask inside small is))).complete values packed _ (m (flags_behind (asks_from t o) t o i) (fields_behind (asks_from t o) t o i mask))

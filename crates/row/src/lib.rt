@@ -2,7 +2,6 @@
 // a row, which is told by the offset of its first octet.
 #![tactic(auto)]
 
-
 ghost use Rattle.std.specs.Prelude.{◌≡◌, ◌+◌, ◌*◌, ◌≤◌, ◌<◌, length};
 ghost use Rattle.std.specs.Int.Signed.{mag};
 ghost use Rattle.octets.specs.Numbers.{u16, u32, signed};

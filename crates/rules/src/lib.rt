@@ -155,6 +155,7 @@ fn kind_test(table: &[u8], at: usize, size: usize, kind: usize, depths: &[u8]) -
 
 // The row at an offset, where so many octets of the table are left: room for a row, its end, its kind, then the other rules. An arm
 // for each kind lets the compiler settle what goes by the kind.
+#[tactic(auto, unfolding(row::specs::Rows::within))]
 pub fn row_test(table: &[u8], at: usize, left: usize, depths: &[u8]) -> RowTest
     requires { (at + left ≡ length table.now) × (length table.now ≤ 4096) }
     ensures { result ≡ row_tested table.now at (spread depths.now) }

@@ -1,3 +1,4 @@
 mod Parts
+mod Running
 mod Runs
 pub mod Texts

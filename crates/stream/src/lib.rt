@@ -16,6 +16,7 @@ use buffers::{Led, State};
 use machine::Before;
 use programs::Progress;
 use stages::Stage;
+use std::io::Stdin;
 use turns::Outcome;
 
 // Puts the last lines behind those that are held.
@@ -40,7 +41,13 @@ fn put_last_lines(input: &[u8], output: &mut [u8], last: Outcome) -> usize
 
 // Turns until the input ends. A proved loop has to end, and nothing says that the input does: so the turns are counted down
 // from a number that no run uses up, and one that did would answer `Next`.
-fn run(input: &mut [u8], output: &mut [u8], values: &mut [i64], start: Progress) -> Outcome
+fn run(
+    source: Stdin,
+    input: &mut [u8],
+    output: &mut [u8],
+    values: &mut [i64],
+    start: Progress,
+) -> Outcome
     requires { (length input.old ≡ 65536) × (length output.old ≡ 65536) × (length values.old ≡ 1024) }
     ensures { HeldAfter result.led × Finished programs start input.new output.new result.led result.progress }
 {
@@ -52,7 +59,7 @@ fn run(input: &mut [u8], output: &mut [u8], values: &mut [i64], start: Progress)
     let mut progress = start;
     let mut turns = u64::MAX;
     while 0 < turns {
-        let result = turns::turn(input, output, values, s, progress);
+        let result = turns::turn(source, input, output, values, s, progress);
         let led = result.led;
         let Led::Next(next) = led else {
             return result;
@@ -67,31 +74,47 @@ fn run(input: &mut [u8], output: &mut [u8], values: &mut [i64], start: Progress)
 
 // Answers the input of a program: turns until it ends, and then the last lines. The result is the end of the lines that are left to
 // write.
-fn answer(input: &mut [u8], output: &mut [u8], values: &mut [i64], start: Progress) -> usize
+fn answer(
+    source: Stdin,
+    input: &mut [u8],
+    output: &mut [u8],
+    values: &mut [i64],
+    start: Progress,
+) -> usize
     requires { (length input.old ≡ 65536) × (length output.old ≡ 65536) × (length values.old ≡ 1024) }
     ensures answered { Answered programs start output.new result }
     ensures upper_bound { result ≤ 65536 }
 {
-    let last = run(input, output, values, start);
+    let last = run(source, input, output, values, start);
     put_last_lines(input, output, last)
 }
 
 // The bench program: frames.
-pub fn answer_frames(input: &mut [u8], output: &mut [u8], values: &mut [i64]) -> usize
+pub fn answer_frames(
+    source: Stdin,
+    input: &mut [u8],
+    output: &mut [u8],
+    values: &mut [i64],
+) -> usize
     requires { (length input.old ≡ 65536) × (length output.old ≡ 65536) × (length values.old ≡ 1024) }
     ensures answered { Answered bench nothing output.new result }
     ensures upper_bound { result ≤ 65536 }
 {
     let before = Before::none();
-    answer(input, output, values, Progress::Bench(before))
+    answer(source, input, output, values, Progress::Bench(before))
 }
 
 // The capture program: a capture file.
-pub fn answer_capture(input: &mut [u8], output: &mut [u8], values: &mut [i64]) -> usize
+pub fn answer_capture(
+    source: Stdin,
+    input: &mut [u8],
+    output: &mut [u8],
+    values: &mut [i64],
+) -> usize
     requires { (length input.old ≡ 65536) × (length output.old ≡ 65536) × (length values.old ≡ 1024) }
     ensures answered { Answered capture Opening output.new result }
     ensures upper_bound { result ≤ 65536 }
 {
     let stage = Stage::Opening;
-    answer(input, output, values, Progress::Capture(stage))
+    answer(source, input, output, values, Progress::Capture(stage))
 }

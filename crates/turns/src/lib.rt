@@ -9,6 +9,7 @@ ghost use Rattle.turns.specs.Turns.{Took, Turned};
 use buffers::{Led, State};
 use machine::Front;
 use programs::Progress;
+use std::io::Stdin;
 
 // What a turn led to, and how far the program then is.
 #[derive(Clone, Copy)]
@@ -47,6 +48,7 @@ fn take(
 
 // One turn: lines are written where there are many; else it goes by what the octets at hand begin with.
 pub fn turn(
+    source: Stdin,
     input: &mut [u8],
     output: &mut [u8],
     values: &mut [i64],
@@ -66,7 +68,7 @@ pub fn turn(
     match front {
         Front::Whole(size) => take(input, output, values, s, progress, size),
         Front::Part => {
-            let led = buffers::more(input, output, s);
+            let led = buffers::more(source, input, output, s);
             Outcome { led, progress }
         }
         Front::Wrong => {

@@ -9,7 +9,7 @@ use lib.IntN.{ℤ, pos, ◌-ℤ◌}
 use lib.ListN.{length, drop, length-append}
 use Rattle.bits.specs.Bits.{width, unpack}
 use Rattle.bits.proofs.Bits.{length-bits_of}
-use Rattle.item.specs.Code.{Code, number, variable, length_within, allows, value_bits, leading, spelling, base, variable_ones, length_ones, natural}
+use Rattle.item.specs.Code.{Code, number, variable, length_within, allows, value_bits, spelling, base, variable_ones, length_ones, natural}
 use Rattle.item.proofs.CodeLaws.{length-leading}
 use Rattle.item.proofs.Widths.{item-widths}
 use Rattle.items.specs.Items.{Items, stop, ask, ◌then◌, one, times, Allows, encoding_bits}

@@ -1,15 +1,13 @@
 -- A record's fields marked one after another, as the writer goes about them.
 -- Assumes nothing.
 use Prim.Native.Nat.{ℕ, ◌+◌, ◌*◌, ◌^◌, ◌<◌}
-use mathlib.Core.Path.{◌≡◌}
-use mathlib.Core.List.{List, [], ◌∷◌}
+use mathlib.Core.Path.{◌≡◌, refl}
+use mathlib.Core.Logic.{◌≢◌}
+use mathlib.Core.List.{List}
 use lib.IntN.{ℤ}
-use types.Run.{OneOf, miss}
-use denote.Enum.Declared.{tag_of}
 use Rattle.octets.specs.Numbers.{u16}
 use Rattle.encoding.specs.Rows.{items}
 use Rattle.parts.proofs.Records.{left_after, flags_behind, fields_behind, record-flag, record-marked}
-use Rattle.write_begin.specs.contracts.Begun.{the_type}
 use Rattle.write_steps.specs.declared.Cursor.{Cursor}
 use Rattle.write_begin.specs.declared.Begun.{Begun}
 use Rattle.write_begin.specs.declared.Begun.TheVariants.{Done, Run, Numbers, Fields, Refused}
@@ -28,11 +26,11 @@ module _ {list : List ℤ} {start here : State} (t : List ℕ) (o i flag mask : 
       (continues-trans (m.1 (flags_behind (items t) t o i) (fields_behind (items t) t o i mask)) (continues_same (record-marked (items t) t o i mask marked l small m.0))))
 
   -- what marking gave is no mark, so that it is a refusal
-  pub no-mark : (begun : Begun) (output : List ℕ) → OneOf (0 ∷ 1 ∷ 2 ∷ 4 ∷ []) (tag_of the_type begun) → Marks flag mask list here output begun
+  pub no-mark : (begun : Begun) (output : List ℕ) → ((marked : ℕ) (next : Cursor) → begun ≢ Fields marked next) → Marks flag mask list here output begun
       → Begins t o list (items t o) start output begun
   no-mark (Done to) output k m = absurd m
   no-mark (Run count row to) output k m = absurd m
   no-mark (Numbers count row to) output k m = absurd m
-  no-mark (Fields marked to) output k m = absurd (miss (0 ∷ 1 ∷ 2 ∷ 4 ∷ []) 3 tt k)
+  no-mark (Fields marked to) output k m = absurd (k marked to refl)
   no-mark (Refused refusal) output k m =
       (continues-trans f (continues_same (record-flag (items t) t o i flag mask l small ef))).complete output _ (m (flags_behind (items t) t o i) (fields_behind (items t) t o i mask))

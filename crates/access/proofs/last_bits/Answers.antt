@@ -1,4 +1,5 @@
 -- `access::last_bits` meets its contract. The last bits are the lowest of the last octet (`number-last`).
+use borrow.Author.Rules.{rules}
 use native.Mathlib.Omega.{arith}
 use mathlib.Core.Path.{sym}
 use Prim.Native.Nat.{ℕ, ◌<◌}
@@ -10,5 +11,5 @@ pub returns : goal.returns
 returns c =
     let a = c.args in
     let m = a.message.now in
-    let octets : (i : ℕ) → get_or m i 0 < 256 = λ i. omega (arith, c.shared_slice_known-1.given i) in
+    let octets : (i : ℕ) → get_or m i 0 < 256 = λ i. search rules in
     rw (c.power.ensures.0, c.octet_inside-last.ensures.0) (sym (number-last m octets a.k (omega arith) (omega arith)))

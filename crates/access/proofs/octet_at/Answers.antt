@@ -1,5 +1,6 @@
 -- `access::octet_at` meets its contract. The bits are cut out of two octets (`number_in_pair`); out of the first alone where
 -- they begin with it.
+use borrow.Author.Rules.{rules}
 use native.Mathlib.Omega.{arith}
 use native.Mathlib.Nat.{mod-lt}
 use mathlib.Core.Path.{◌≡◌, sym, ap, ◌∙◌}
@@ -12,7 +13,7 @@ pub returns-then-into-eq0 : goal.returns-then-into-eq0
 returns-then-into-eq0 c =
     let a = c.args in
     let m = a.message.now in
-    let octets : (i : ℕ) → get_or m i 0 < 256 = λ i. omega (arith, c.shared_slice_known-1.given i) in
+    let octets : (i : ℕ) → get_or m i 0 < 256 = λ i. search rules in
     let first : c.octet_inside-first.result ≡ get_or m a.at 0 = c.octet_inside-first.ensures.0 in
     let next = octets (a.at + 1) in
     let e : 8 - a.into ≡ 8 = omega arith in
@@ -26,7 +27,7 @@ pub returns : goal.returns
 returns c =
     let a = c.args in
     let m = a.message.now in
-    let octets : (i : ℕ) → get_or m i 0 < 256 = λ i. omega (arith, c.shared_slice_known-1.given i) in (
+    let octets : (i : ℕ) → get_or m i 0 < 256 = λ i. search rules in (
       rw (c.octet_inside-first.ensures.0, c.octet_inside-second.ensures.0) (sym (number_in_pair m octets a.at a.into (omega arith) (omega arith))),
       mod-lt _ (omega arith),
     )

@@ -1,6 +1,5 @@
 -- `access::put_octet` meets its contract. Its bits are replaced in the two octets that it lies across; where it begins with an
 -- octet, it replaces that one (`set-octet`).
-use borrow.Author.Rules.{rules}
 use native.Mathlib.Omega.{arith}
 use mathlib.Core.Path.{◌≡◌}
 use Prim.Native.Nat.{◌+◌, ◌-◌, ◌*◌}
@@ -12,10 +11,6 @@ returns-then-into-eq0 c =
     let a = c.args in
     let whole : 8 * a.at + a.into ≡ 8 * a.at = omega arith in
     (rw whole (set-octet a.output.now a.at (omega arith) a.octet), λ h. absurd (omega (arith, h)))
-
-pub replace_in_pair-requires : goal.replace_in_pair-requires
-replace_in_pair-requires c =
-    (omega arith, search rules, omega arith, c.requires.2 (omega arith))
 
 pub returns : goal.returns
 returns c =

@@ -1,4 +1,5 @@
 -- `access::replace_in_octet` meets its contract. The octet, with its bits replaced, is put back (`put_in_octet`).
+use borrow.Author.Rules.{rules}
 use native.Mathlib.Omega.{arith}
 use Prim.Native.Nat.{ℕ, ◌+◌, ◌-◌, ◌*◌, ◌≤◌, ◌<◌}
 use lib.ListN.{length, get_or}
@@ -12,7 +13,7 @@ returns c =
     let pre = c.requires in
     let m = a.output.now in
     let above = 8 - a.below - a.k in
-    let octets : (i : ℕ) → get_or m i 0 < 256 = λ i. omega (arith, c.slice_known-1.given i) in
+    let octets : (i : ℕ) → get_or m i 0 < 256 = λ i. search rules in
     let fits : 8 * a.at + above + a.k ≤ 8 * length m = omega arith in
     rw (c.replace.ensures, c.octet_inside-octet.ensures.0)
     (stored-spliced m (8 * a.at + above) a.k a.v fits

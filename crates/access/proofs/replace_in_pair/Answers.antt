@@ -12,28 +12,13 @@ use Rattle.access.proofs.replace_in_pair.Goals as goal
 
 -- the first octet is one
 
-pub overflow_mul-first : goal.overflow_mul-first
-overflow_mul-first c =
-    let first-lt : c.args.first < 256 = omega (arith, c.requires.3, c.slice_known-1.given c.args.at) in
-    omega (arith, first-lt)
-
-pub overflow_add-first : goal.overflow_add-first
-overflow_add-first c =
-    let first-lt : c.args.first < 256 = omega (arith, c.requires.3, c.slice_known-1.given c.args.at) in
-    omega (arith, first-lt)
-
-pub replace-pair-requires : goal.replace-pair-requires
-replace-pair-requires c =
-    let first-lt : c.args.first < 256 = omega (arith, c.requires.3, c.slice_known-1.given c.args.at) in
-    (omega (arith, first-lt), omega arith, search rules)
-
 pub returns : goal.returns
 returns c =
     let a = c.args in
     let pre = c.requires in
     let m = a.output.now in
     let above = 16 - a.below - a.k in
-    let octets : (i : ℕ) → get_or m i 0 < 256 = λ i. omega (arith, c.slice_known-1.given i) in
+    let octets : (i : ℕ) → get_or m i 0 < 256 = λ i. search rules in
     let fits : 8 * a.at + above + a.k ≤ 8 * length m = omega arith in
     let pair = placed (256 * get_or m a.at 0 + get_or m (a.at + 1) 0) a.below a.k a.v in
     rw (c.replace-pair.ensures, c.octet_inside-second.ensures.0, pre.3) (

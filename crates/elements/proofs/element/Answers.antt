@@ -54,7 +54,6 @@ loop-i-preserved c = (
   omega arith,
   seek_on _ _ known c.loop-i.i _ (omega arith) (ne_eqb _ _ c.if-k-id.false)
       ∙ c.loop-i.invariant.1,
-
 )
 
 pub returns : goal.returns

@@ -1,12 +1,7 @@
 -- `forward::id_of` meets its contract.
-use Prim.Native.Nat.{ℕ, ◌<◌}
 use native.Mathlib.Omega.{arith}
-use lib.ListN.{get_or}
 use Rattle.forward.proofs.Fields.{id_is}
 use Rattle.forward.proofs.id_of.Goals as goal
 
 pub returns : goal.returns
-returns c =
-    let m = c.args.message.now in
-    let octets : (j : ℕ) → get_or m j 0 < 256 = λ j. omega (arith, c.shared_slice_known-1.given j) in
-    omega (arith, id_is m octets c.requires, c.wide-3.ensures, c.wide-2.ensures, c.wide.ensures)
+returns c = omega (arith, id_is c.args.message.now (λ j. (c.type_inv.message j).fits) c.requires)

@@ -1,10 +1,8 @@
-use Prim.Native.Nat.{◌-◌}
 use mathlib.Core.Path.{◌≡◌, sym, ◌∙◌}
 use mathlib.Core.List.{[]}
 use native.Mathlib.Nat.{add-zero}
 use native.Mathlib.Omega.{arith}
 use lib.ListN.{drop, drop_of_length-le}
-use Rattle.machine.proofs.Fronts.{no_other}
 use Rattle.house.proofs.Wholes.{whole_none, whole_nothing, octets_behind, frame_behind}
 use Rattle.house.proofs.whole.Goals as goal
 
@@ -18,16 +16,11 @@ loop-at-smaller c =
     let n = frame_behind c.args.octets.now c.loop-at.at c.in-Whole.size c.front-first.result c.loop-at.invariant c.front-first.ensures.value c.in-Whole.is in
     omega (arith, n.0, n.1)
 
-pub overflow_add-at : goal.overflow_add-at
-overflow_add-at c =
-    let n = frame_behind c.args.octets.now c.loop-at.at c.in-Whole.size c.front-first.result c.loop-at.invariant c.front-first.ensures.value c.in-Whole.is in
-    omega (arith, n.1)
-
 pub returns-in_default : goal.returns-in_default
 returns-in_default c =
     let octets = c.args.octets.now in
     let told = rw (octets_behind octets c.loop-at.at) at c.front-first.ensures.value in
-    (sym (c.loop-at.invariant.1 ∙ rw (whole_none (drop c.loop-at.at octets) (λ size e. absurd (no_other (rw (told ∙ e) at c.in_default.keys2)))) (add-zero c.loop-at.at)), c.loop-at.invariant.0)
+    (sym (c.loop-at.invariant.1 ∙ rw (whole_none (drop c.loop-at.at octets) (λ size e. c.in_default.not-Whole size (told ∙ e))) (add-zero c.loop-at.at)), c.loop-at.invariant.0)
 
 pub returns : goal.returns
 returns c =

@@ -1,10 +1,7 @@
 -- `lines::put_refusal` meets its contract.
-use native.Mathlib.Omega.{arith}
 use Rattle.lines.specs.Text.{refused_line}
 use Rattle.lines.proofs.put_refusal.Goals as goal
 
-pub returns : goal.returns
+pub returns-clause-appended : goal.returns-clause-appended
 unfolding refused_line
-returns c =
-    let p = c.put_placed.ensures in
-    record { appended = p.0; upper_bound = omega (arith, p.1) }
+returns-clause-appended c = c.put_placed.ensures.appended

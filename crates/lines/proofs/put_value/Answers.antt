@@ -1,6 +1,5 @@
 -- `lines::put_value` meets its contract. A value's sign tells which of the two notations it has.
 use mathlib.Core.Path.{ap, ◌∙◌}
-use native.Mathlib.Omega.{arith}
 use lib.IntN.{nat_abs}
 use mir.Facts.{to_z-of_z}
 use Rattle.values.proofs.Complement.{negative, positive}
@@ -8,14 +7,14 @@ use Rattle.lines.proofs.Signs.{signed-negative, signed-positive}
 use Rattle.lines.proofs.Texts.{put_both}
 use Rattle.lines.proofs.put_value.Goals as goal
 
-pub returns-then-value-lt0 : goal.returns-then-value-lt0
-returns-then-value-lt0 c =
+pub returns-then-value-lt0-clause-appended : goal.returns-then-value-lt0-clause-appended
+returns-then-value-lt0-clause-appended c =
     let k = negative c.args.value c.ranges.value c.if-value-lt0.true in
     let size = c.magnitude.ensures ∙ ap nat_abs (to_z-of_z c.ranges.value) in
-    record { appended = rw (signed-negative c.args.value k) (rw size at (put_both c.put_text-next.ensures c.put_number.ensures.appended)); upper_bound = omega (arith, c.put_text-next.ensures.counted, c.put_number.ensures.upper_bound) }
+    rw (signed-negative c.args.value k) (rw size at (put_both c.put_text-next.ensures c.put_number.ensures.appended))
 
-pub returns-else-value-lt0 : goal.returns-else-value-lt0
-returns-else-value-lt0 c =
+pub returns-else-value-lt0-clause-appended : goal.returns-else-value-lt0-clause-appended
+returns-else-value-lt0-clause-appended c =
     let k = positive c.args.value c.ranges.value c.if-value-lt0.false in
     let size = c.magnitude-else-value-lt0.ensures ∙ ap nat_abs (to_z-of_z c.ranges.value) in
-    record { appended = rw (signed-positive c.args.value k) (rw size at c.put_number-else-value-lt0.ensures.appended); upper_bound = omega (arith, c.put_number-else-value-lt0.ensures.upper_bound) }
+    rw (signed-positive c.args.value k) (rw size at c.put_number-else-value-lt0.ensures.appended)

@@ -1,6 +1,5 @@
 -- `lm_guard::lm_list_tested` meets its contract. Each test as it is made.
 -- Assumes nothing.
-use Prim.Native.Nat.{◌-◌}
 use mathlib.Core.Path.{◌∙◌}
 use lib.ListN.{get_or}
 use lib.IntN.{pos}
@@ -8,38 +7,17 @@ use Rattle.lm_guard.proofs.ListTests.{version-three, version_other, subtype-nega
 use borrow.Author.Rules.{rules}
 use Rattle.lm_guard.proofs.lm_list_tested.Goals as goal
 
-pub refused-requires : goal.refused-requires
-refused-requires c = search rules
-
 pub returns-then-values-lt3 : goal.returns-then-values-lt3
 returns-then-values-lt3 c = c.refused.ensures ∙ list-short c.args.values.now c.if-values-lt3.true
 
-pub bounds-values-2 : goal.bounds-values-2
-bounds-values-2 c = search rules
-
-pub refused-requires-then-values-ne3 : goal.refused-requires-then-values-ne3
-refused-requires-then-values-ne3 c = search rules
-
 pub returns-then-values-ne3 : goal.returns-then-values-ne3
-returns-then-values-ne3 c = c.refused-then-values-ne3.ensures ∙ list-version c.args.values.now c.if-values-lt3.false (version_other (get_or c.args.values.now 2 (pos 0)) c.t7-1.given c.if-values-ne3.true)
-
-pub bounds-values-0 : goal.bounds-values-0
-bounds-values-0 c = search rules
-
-pub refused-requires-then-subtype-lt0 : goal.refused-requires-then-subtype-lt0
-refused-requires-then-subtype-lt0 c = search rules
+returns-then-values-ne3 c = c.refused-then-values-ne3.ensures ∙ list-version c.args.values.now c.if-values-lt3.false (version_other (get_or c.args.values.now 2 (pos 0)) (search rules) c.if-values-ne3.true)
 
 pub returns-then-subtype-lt0 : goal.returns-then-subtype-lt0
-returns-then-subtype-lt0 c = c.refused-then-subtype-lt0.ensures ∙ list-subtype c.args.values.now c.if-values-lt3.false (version-three (get_or c.args.values.now 2 (pos 0)) c.t7-1.given c.if-values-ne3.false) (subtype-negative (get_or c.args.values.now 0 (pos 0)) c.subtype-1.given c.if-subtype-lt0.true)
-
-pub refused-requires-then-subtype-gt2 : goal.refused-requires-then-subtype-gt2
-refused-requires-then-subtype-gt2 c = search rules
+returns-then-subtype-lt0 c = c.refused-then-subtype-lt0.ensures ∙ list-subtype c.args.values.now c.if-values-lt3.false (version-three (get_or c.args.values.now 2 (pos 0)) (search rules) c.if-values-ne3.false) (subtype-negative (get_or c.args.values.now 0 (pos 0)) (search rules) c.if-subtype-lt0.true)
 
 pub returns-then-subtype-gt2 : goal.returns-then-subtype-gt2
-returns-then-subtype-gt2 c = c.refused-then-subtype-gt2.ensures ∙ list-subtype c.args.values.now c.if-values-lt3.false (version-three (get_or c.args.values.now 2 (pos 0)) c.t7-1.given c.if-values-ne3.false) (subtype-high (get_or c.args.values.now 0 (pos 0)) c.subtype-1.given c.if-subtype-gt2.true)
-
-pub accepted-requires : goal.accepted-requires
-accepted-requires c = search rules
+returns-then-subtype-gt2 c = c.refused-then-subtype-gt2.ensures ∙ list-subtype c.args.values.now c.if-values-lt3.false (version-three (get_or c.args.values.now 2 (pos 0)) (search rules) c.if-values-ne3.false) (subtype-high (get_or c.args.values.now 0 (pos 0)) (search rules) c.if-subtype-gt2.true)
 
 pub returns : goal.returns
-returns c = c.accepted.ensures ∙ list-fine c.args.values.now c.if-values-lt3.false (version-three (get_or c.args.values.now 2 (pos 0)) c.t7-1.given c.if-values-ne3.false) (subtype-fine (get_or c.args.values.now 0 (pos 0)) c.subtype-1.given c.if-subtype-lt0.false c.if-subtype-gt2.false)
+returns c = c.accepted.ensures ∙ list-fine c.args.values.now c.if-values-lt3.false (version-three (get_or c.args.values.now 2 (pos 0)) (search rules) c.if-values-ne3.false) (subtype-fine (get_or c.args.values.now 0 (pos 0)) (search rules) c.if-subtype-lt0.false c.if-subtype-gt2.false)

@@ -1,38 +1,18 @@
 -- `lm_guard::lm_tested` meets its contract. Each test as it is made.
 -- Assumes nothing.
-use Prim.Native.Nat.{◌-◌}
 use mathlib.Core.Path.{sym, ◌∙◌}
 use native.Mathlib.Omega.{arith}
 use Rattle.bits.proofs.Access.{fetched-Short, fetched-Bits}
 use Rattle.lm_guard.proofs.Tests.{tested-long, tested-empty, tested-version, tested-subtype, tested-fine}
-use borrow.Author.Rules.{rules}
 use Rattle.lm_guard.proofs.lm_tested.Goals as goal
-
-pub refused-requires : goal.refused-requires
-refused-requires c = search rules
 
 pub returns-then-message-gt-MOST : goal.returns-then-message-gt-MOST
 returns-then-message-gt-MOST c = c.refused.ensures ∙ tested-long c.args.message.now c.if-message-gt-MOST.true
-
-pub fetch-version-requires : goal.fetch-version-requires
-fetch-version-requires c = search rules
-
-pub enum_known-version : goal.enum_known-version
-enum_known-version c = search rules
-
-pub enum_told-1 : goal.enum_told-1
-enum_told-1 c = search rules
-
-pub refused-requires-in_default : goal.refused-requires-in_default
-refused-requires-in_default c = search rules
 
 pub returns-in_default : goal.returns-in_default
 returns-in_default c =
     let m = c.args.message.now in
     c.refused-in_default.ensures ∙ tested-empty m c.if-message-gt-MOST.false (omega (arith, fetched-Short m 5 3 (sym c.fetch-version.ensures ∙ c.in_default.is)))
-
-pub refused-requires-then-number-ne3 : goal.refused-requires-then-number-ne3
-refused-requires-then-number-ne3 c = search rules
 
 pub returns-then-number-ne3 : goal.returns-then-number-ne3
 returns-then-number-ne3 c =
@@ -40,26 +20,11 @@ returns-then-number-ne3 c =
     let v = fetched-Bits m 5 3 _ _ (sym c.fetch-version.ensures ∙ c.in-Bits.is) in
     c.refused-then-number-ne3.ensures ∙ tested-version m c.if-message-gt-MOST.false (omega (arith, v.0)) _ v.1 c.if-number-ne3.true
 
-pub fetch-subtype-requires : goal.fetch-subtype-requires
-fetch-subtype-requires c = search rules
-
-pub enum_known-subtype : goal.enum_known-subtype
-enum_known-subtype c = search rules
-
-pub enum_told-in_default-subtype : goal.enum_told-in_default-subtype
-enum_told-in_default-subtype c = search rules
-
-pub refused-requires-in_default-subtype : goal.refused-requires-in_default-subtype
-refused-requires-in_default-subtype c = search rules
-
 pub returns-in_default-subtype : goal.returns-in_default-subtype
 returns-in_default-subtype c =
     let m = c.args.message.now in
     let v = fetched-Bits m 5 3 _ _ (sym c.fetch-version.ensures ∙ c.in-Bits.is) in
     absurd (omega (arith, v.0, fetched-Short m 0 4 (sym c.fetch-subtype.ensures ∙ c.in_default-subtype.is)))
-
-pub refused-requires-then-branch-gt2 : goal.refused-requires-then-branch-gt2
-refused-requires-then-branch-gt2 c = search rules
 
 pub returns-then-branch-gt2 : goal.returns-then-branch-gt2
 returns-then-branch-gt2 c =
@@ -67,9 +32,6 @@ returns-then-branch-gt2 c =
     let v = fetched-Bits m 5 3 _ _ (sym c.fetch-version.ensures ∙ c.in-Bits.is) in
     let u = fetched-Bits m 0 4 _ _ (sym c.fetch-subtype.ensures ∙ c.in-Bits-subtype.is) in
     c.refused-then-branch-gt2.ensures ∙ tested-subtype m c.if-message-gt-MOST.false (omega (arith, v.0)) _ v.1 c.if-number-ne3.false _ u.1 c.if-branch-gt2.true
-
-pub accepted-requires : goal.accepted-requires
-accepted-requires c = search rules
 
 pub returns : goal.returns
 returns c =

@@ -2,6 +2,7 @@
 -- Assumes nothing.
 use Prim.Native.Nat.{ℕ, zero, suc}
 use mathlib.Core.Path.{◌≡◌, refl}
+use native.Mathlib.Omega.{arith}
 use Rattle.lm_items.specs.declared.Kind.TheVariants.{NHopForwarding}
 use Rattle.lm_opening.specs.Opens.{network_kind}
 use Rattle.lm_opening.proofs.network_kind.Goals as goal
@@ -14,4 +15,4 @@ others (suc zero) f g = absurd (g refl)
 others (suc (suc n)) f g = refl
 
 pub returns-in_default : goal.returns-in_default
-returns-in_default c = others c.args.subtype c.in_default.rest.0.1 c.in_default.rest.1
+returns-in_default c = others c.args.subtype (λ e. omega arith) (λ e. omega arith)

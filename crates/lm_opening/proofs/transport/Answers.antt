@@ -1,21 +1,31 @@
 -- `lm_opening::transport` meets its contract. The feature selector and the flag, each cut out of the octet and kept.
 -- Assumes nothing.
-use Prim.Native.Nat.{◌+◌, ◌/◌, ◌%◌}
+use Prim.Native.Nat.{ℕ, ◌+◌, ◌/◌, ◌%◌, ◌≤◌}
 use mathlib.Core.Path.{◌≡◌, refl, sym, ◌∙◌}
+use mathlib.Core.List.{List}
 use native.Mathlib.Omega.{arith}
 use lib.IntN.{pos}
 use Rattle.bits.specs.Access.{place_at}
+use Rattle.bits.specs.declared.BitPlace.{BitPlace}
 use Rattle.item.specs.Code.{number, index}
+use Rattle.item.specs.Answers.{item_at}
 use Rattle.item.specs.declared.Item.TheVariants.{Value}
-use Rattle.lm_items.specs.Asked.{transport_by, transport_branches, asked}
-use Rattle.lm_items.specs.declared.Section.TheVariants.{Transport}
-use Rattle.read_steps.specs.Reads.{state_at, Continues}
+use Rattle.lm_items.specs.Asked.{transport_branches}
+use Rattle.read_steps.specs.Reads.{state_at}
 use Rattle.read_steps.proofs.Flow.{continues-trans}
 use Rattle.read_steps.proofs.Keeping.{Keeping, keeping, first_refused, first-kept}
-use Rattle.lm_opening.proofs.Branches.{transport-asks, transport-width, transport-reserved, TransportBranch, transport-branch, flag-width}
+use Rattle.lm_opening.proofs.Branches.{transport-asks, transport-width, transport-reserved, transport-branch, flag-width}
 use Rattle.whole.proofs.Cut.{kept_place}
-use Rattle.lm_opening.proofs.FirstOctet.{Octet, index-missing, octet-small, octet_end, index_there, index-reserved, number_inside}
+use Rattle.lm_opening.proofs.FirstOctet.{Octet, index-missing, octet-small, octet_end, octet-after, index_there, index-reserved, number_inside}
 use Rattle.lm_opening.proofs.transport.Goals as goal
+
+-- what stands in the octet
+module _ {m : List ℕ} {p x : ℕ} {q : BitPlace} (octet : Octet m p x q) where
+  selector-at : x / 2 ≤ 1 → Value (pos (x / 2)) (place_at (p + 7)) ≡ item_at (index transport_branches) m p
+  selector-at few = let small = octet-small octet in index_there octet transport_branches _ 7 1 transport-width (omega arith) refl (omega arith) (transport-branch _ few).there refl
+
+  flag-at : {from : ℕ} → from ≡ p + 7 → Value (pos (x % 2)) q ≡ item_at (number (pos 0) 1) m from
+  flag-at starts = number_inside octet 7 1 0 flag-width (omega arith) refl (omega arith) (omega arith) starts (omega (arith, octet_end octet))
 
 pub returns-in_default : goal.returns-in_default
 returns-in_default c =
@@ -23,87 +33,37 @@ returns-in_default c =
     rw c.new.ensures
     (first_refused _ _ transport-asks (keeping _ refl (index-missing _ transport_branches c.requires.1 short transport-width (omega arith)) (refl, refl, refl)) refl)
 
--- the octet
-
 pub returns-then-selector-gt1 : goal.returns-then-selector-gt1
 returns-then-selector-gt1 c =
-    let octet_is : let a = c.args in
-    Octet a.message.now a.cursor.place.0 c.in-Bits.octet c.in-Bits.next = record { fetches = sym c.fetch-f.ensures ∙ c.in-Bits.is } in
-    let octet = octet_is in
-    let selector = c.in-Bits.octet / 2 in
-    let none = transport-reserved selector (omega (arith, c.if-selector-gt1.true)) (omega (arith, octet-small octet)) in
+    let octet : Octet c.args.message.now c.args.cursor.place.0 c.in-Bits.octet c.in-Bits.next = record { fetches = sym c.fetch-f.ensures ∙ c.in-Bits.is } in
+    let small = octet-small octet in
+    let none = transport-reserved (c.in-Bits.octet / 2) c.if-selector-gt1.true (omega arith) in
     rw c.new-then-selector-gt1.ensures
     (first_refused _ _ transport-asks
-    (keeping _ refl (index-reserved octet transport_branches selector 7 1 transport-width (omega arith) refl (omega (arith, octet-small octet)) none) (refl, refl, refl)) refl)
-
--- the branch that the feature selector chooses
-
--- the feature selector, kept
+    (keeping _ refl (index-reserved octet transport_branches (c.in-Bits.octet / 2) 7 1 transport-width (omega arith) refl (omega arith) none) (refl, refl, refl)) refl)
 
 pub returns-in_default-first : goal.returns-in_default-first
 returns-in_default-first c =
-    let octet_is : let a = c.args in
-    Octet a.message.now a.cursor.place.0 c.in-Bits.octet c.in-Bits.next = record { fetches = sym c.fetch-f.ensures ∙ c.in-Bits.is } in
-    let branch_is : TransportBranch (c.in-Bits.octet / 2) = transport-branch _ (omega (arith, c.if-selector-gt1.false)) in
-    let selector-kept : let a = c.args in
-    Keeping (index transport_branches) a.message.now a.room (state_at a.cursor a.values.now a.packed.now)
-    c.keep-first.new.1.1.0 c.keep-first.new.1.1.1.0 (Value (pos (c.in-Bits.octet / 2)) (place_at (a.cursor.place.0 + 7))) c.keep-first.result = let octet = octet_is in
-    let there = (branch_is).there in
-    keeping _ refl
-    (index_there octet transport_branches _ 7 1 transport-width (omega arith) refl (omega (arith, octet-small octet)) there refl)
-    c.keep-first.ensures in
-    let told = c.in_default-first.is in
-    rw (c.closed.ensures, told) (first_refused _ _ transport-asks (selector-kept) told)
-
--- and what comes behind it
-
--- the flag, kept
+    let octet : Octet c.args.message.now c.args.cursor.place.0 c.in-Bits.octet c.in-Bits.next = record { fetches = sym c.fetch-f.ensures ∙ c.in-Bits.is } in
+    rw (c.closed.ensures, c.in_default-first.is)
+    (first_refused _ _ transport-asks (keeping _ refl (selector-at octet c.if-selector-gt1.false) c.keep-first.ensures) c.in_default-first.is)
 
 pub returns-in_default-last : goal.returns-in_default-last
 returns-in_default-last c =
-    let octet_is : let a = c.args in
-    Octet a.message.now a.cursor.place.0 c.in-Bits.octet c.in-Bits.next = record { fetches = sym c.fetch-f.ensures ∙ c.in-Bits.is } in
-    let branch_is : TransportBranch (c.in-Bits.octet / 2) = transport-branch _ (omega (arith, c.if-selector-gt1.false)) in
-    let selector-kept : let a = c.args in
-    Keeping (index transport_branches) a.message.now a.room (state_at a.cursor a.values.now a.packed.now)
-    c.keep-first.new.1.1.0 c.keep-first.new.1.1.1.0 (Value (pos (c.in-Bits.octet / 2)) (place_at (a.cursor.place.0 + 7))) c.keep-first.result = let octet = octet_is in
-    let there = (branch_is).there in
-    keeping _ refl
-    (index_there octet transport_branches _ 7 1 transport-width (omega arith) refl (omega (arith, octet-small octet)) there refl)
-    c.keep-first.ensures in
-    let behind-selector : let a = c.args in
-    Continues a.message.now a.room (asked Transport) (state_at a.cursor a.values.now a.packed.now)
-    (transport_by (c.in-Bits.octet / 2)) (state_at c.in-Past.second c.keep-first.new.1.1.0 c.keep-first.new.1.1.1.0) = first-kept _ _ transport-asks (selector-kept) c.in-Past.is in
-    let flag-kept : let a = c.args in
-    Keeping (number (pos 0) 1) a.message.now a.room (state_at c.in-Past.second c.keep-first.new.1.1.0 c.keep-first.new.1.1.1.0)
-    c.keep-last.new.1.1.0 c.keep-last.new.1.1.1.0 (Value (pos (c.in-Bits.octet % 2)) c.in-Bits.next) c.keep-last.result = let octet = octet_is in
-    let starts = kept_place (selector-kept) c.in-Past.is in
-    keeping _ refl (number_inside octet 7 1 0 flag-width (omega arith) refl (omega arith) (omega arith) starts (omega (arith, octet_end octet))) c.keep-last.ensures in
-    let branch = branch_is in
-    let told = c.in_default-last.is in
-    rw (c.closed-in_default-last.ensures, told) ((behind-selector).complete _ _ _ (first_refused _ _ branch.asks (flag-kept) told))
+    let a = c.args in
+    let octet : Octet c.args.message.now c.args.cursor.place.0 c.in-Bits.octet c.in-Bits.next = record { fetches = sym c.fetch-f.ensures ∙ c.in-Bits.is } in
+    let selector-kept : Keeping _ a.message.now a.room (state_at a.cursor a.values.now a.packed.now) _ _ _ _ = keeping _ refl (selector-at octet c.if-selector-gt1.false) c.keep-first.ensures in
+    let flag-kept : Keeping _ a.message.now a.room (state_at c.in-Past.second _ _) _ _ _ _ = keeping _ refl (flag-at octet (kept_place selector-kept c.in-Past.is)) c.keep-last.ensures in
+    rw (c.closed-in_default-last.ensures, c.in_default-last.is)
+    ((first-kept _ _ transport-asks selector-kept c.in-Past.is).complete _ _ _
+    (first_refused _ _ (transport-branch _ c.if-selector-gt1.false).asks flag-kept c.in_default-last.is))
 
 pub returns : goal.returns
 returns c =
-    let octet_is : let a = c.args in
-    Octet a.message.now a.cursor.place.0 c.in-Bits.octet c.in-Bits.next = record { fetches = sym c.fetch-f.ensures ∙ c.in-Bits.is } in
-    let branch_is : TransportBranch (c.in-Bits.octet / 2) = transport-branch _ (omega (arith, c.if-selector-gt1.false)) in
-    let selector-kept : let a = c.args in
-    Keeping (index transport_branches) a.message.now a.room (state_at a.cursor a.values.now a.packed.now)
-    c.keep-first.new.1.1.0 c.keep-first.new.1.1.1.0 (Value (pos (c.in-Bits.octet / 2)) (place_at (a.cursor.place.0 + 7))) c.keep-first.result = let octet = octet_is in
-    let there = (branch_is).there in
-    keeping _ refl
-    (index_there octet transport_branches _ 7 1 transport-width (omega arith) refl (omega (arith, octet-small octet)) there refl)
-    c.keep-first.ensures in
-    let behind-selector : let a = c.args in
-    Continues a.message.now a.room (asked Transport) (state_at a.cursor a.values.now a.packed.now)
-    (transport_by (c.in-Bits.octet / 2)) (state_at c.in-Past.second c.keep-first.new.1.1.0 c.keep-first.new.1.1.1.0) = first-kept _ _ transport-asks (selector-kept) c.in-Past.is in
-    let flag-kept : let a = c.args in
-    Keeping (number (pos 0) 1) a.message.now a.room (state_at c.in-Past.second c.keep-first.new.1.1.0 c.keep-first.new.1.1.1.0)
-    c.keep-last.new.1.1.0 c.keep-last.new.1.1.1.0 (Value (pos (c.in-Bits.octet % 2)) c.in-Bits.next) c.keep-last.result = let octet = octet_is in
-    let starts = kept_place (selector-kept) c.in-Past.is in
-    keeping _ refl (number_inside octet 7 1 0 flag-width (omega arith) refl (omega arith) (omega arith) starts (omega (arith, octet_end octet))) c.keep-last.ensures in
-    let branch = branch_is in
-    let told = c.in-Past-last.is in
-    let on_octet : c.in-Past-last.end.place.0 % 8 ≡ 0 = omega (arith, c.requires.1, octet_end (octet_is), kept_place (flag-kept) told) in
-    rw c.transport_kind.ensures (continues-trans (behind-selector) (first-kept _ _ branch.asks (flag-kept) told), branch.fewer, on_octet)
+    let a = c.args in
+    let octet : Octet c.args.message.now c.args.cursor.place.0 c.in-Bits.octet c.in-Bits.next = record { fetches = sym c.fetch-f.ensures ∙ c.in-Bits.is } in
+    let branch = transport-branch _ c.if-selector-gt1.false in
+    let selector-kept : Keeping _ a.message.now a.room (state_at a.cursor a.values.now a.packed.now) _ _ _ _ = keeping _ refl (selector-at octet c.if-selector-gt1.false) c.keep-first.ensures in
+    let flag-kept : Keeping _ a.message.now a.room (state_at c.in-Past.second _ _) _ _ _ _ = keeping _ refl (flag-at octet (kept_place selector-kept c.in-Past.is)) c.keep-last.ensures in
+    rw c.transport_kind.ensures
+    (continues-trans (first-kept _ _ transport-asks selector-kept c.in-Past.is) (first-kept _ _ branch.asks flag-kept c.in-Past-last.is), branch.fewer, octet-after octet c.requires.1 (kept_place flag-kept c.in-Past-last.is))

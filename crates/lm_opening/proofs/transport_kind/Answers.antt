@@ -2,6 +2,7 @@
 -- Assumes nothing.
 use Prim.Native.Nat.{ℕ, zero, suc}
 use mathlib.Core.Path.{◌≡◌, refl}
+use native.Mathlib.Omega.{arith}
 use Rattle.lm_items.specs.declared.Kind.TheVariants.{Session}
 use Rattle.lm_opening.specs.Opens.{transport_kind}
 use Rattle.lm_opening.proofs.transport_kind.Goals as goal
@@ -13,4 +14,4 @@ others zero f = absurd (f refl)
 others (suc n) f = refl
 
 pub returns-in_default : goal.returns-in_default
-returns-in_default c = others c.args.selector c.in_default.rest.1
+returns-in_default c = others c.args.selector (λ e. omega arith)

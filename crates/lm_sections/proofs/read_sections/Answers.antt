@@ -16,24 +16,17 @@ pub read_section-passed-requires : goal.read_section-passed-requires
 read_section-passed-requires c =
     (search rules, c.loop-section.invariant.2, rw c.rank.ensures at c.loop-section-test.true)
 
--- the section, read
-
 pub returns-in_default : goal.returns-in_default
 returns-in_default c =
-    let told = c.in_default.is in
-    rw (c.stopped.ensures, told) (c.loop-section.invariant.3.complete _ _ _ (rw told at c.read_section-passed.ensures))
+    rw (c.stopped.ensures, c.in_default.is) (c.loop-section.invariant.3.complete _ _ _ (rw c.in_default.is at c.read_section-passed.ensures))
 
 pub loop-section-smaller : goal.loop-section-smaller
-loop-section-smaller c =
-    let passes : let a = c.args in let next = c.passed-1.given.0 in
-    Passes c.loop-section.section a.message.now a.room (state_at c.loop-section.here c.loop-section.values c.loop-section.packed) c.read_section-passed.new.packed c.read_section-passed.new.1.1.1.0 (Next next.0 next.1.0) = rw c.in-Next.is at c.read_section-passed.ensures in
-    (passes).1
+loop-section-smaller c = (rw c.in-Next.is at c.read_section-passed.ensures).1
 
 pub loop-section-preserved : goal.loop-section-preserved
 loop-section-preserved c =
-    let passes : let a = c.args in let next = c.passed-1.given.0 in
-    Passes c.loop-section.section a.message.now a.room (state_at c.loop-section.here c.loop-section.values c.loop-section.packed) c.read_section-passed.new.packed c.read_section-passed.new.1.1.1.0 (Next next.0 next.1.0) = rw c.in-Next.is at c.read_section-passed.ensures in
-    (search rules, search rules, (passes).2, continues-trans c.loop-section.invariant.3 (passes).0)
+    let passes = rw c.in-Next.is at c.read_section-passed.ensures in
+    (search rules, search rules, passes.2, continues-trans c.loop-section.invariant.3 passes.0)
 
 pub returns : goal.returns
 unfolding asked

@@ -12,15 +12,20 @@ use Rattle.lm_items.specs.Asked.{is_content, elements_if, string_items, strings_
 use Rattle.lm_items.specs.declared.Kind.{Kind}
 use Rattle.lm_strings.proofs.count.Goals as goal
 
--- the strings of a section that is not the user data
-
-elements-are : (kind : Kind) (e : Bool) → is_content kind ≡ false → strings_items kind e ≡ elements_if e kind
-unfolding strings_items
-elements-are kind e h = rw h
-
 content-is : (kind : Kind) (e : Bool) → is_content kind ≡ true → strings_items kind e ≡ times 1 (string_items kind)
 unfolding strings_items
 content-is kind e h = rw h
+
+-- the strings of a section that is not the user data
+elements-are : (kind : Kind) {e f : Bool} → is_content kind ≡ false → e ≡ f → strings_items kind e ≡ elements_if f kind
+unfolding strings_items
+elements-are kind h flag = rw (h, flag)
+
+-- and the strings that are counted
+counted-items : (kind : Kind) {e : Bool} → is_content kind ≡ false → e ≡ true → (q : Items)
+    → strings_items kind e then q ≡ ask (length_within 0 255) (λ v. times (natural v) (string_items kind) then q)
+unfolding elements_if
+counted-items kind h flag q = ap (◌then q) (elements-are kind h flag)
 
 pub returns-then-is_content : goal.returns-then-is_content
 returns-then-is_content c =
@@ -31,39 +36,20 @@ returns-then-is_content c =
 pub returns-then-not-extended : goal.returns-then-not-extended
 unfolding elements_if times
 returns-then-not-extended c =
-    let a = c.args in
     let element = sym c.is_content.ensures ∙ c.if-is_content.false in
-    let none = elements-are a.kind a.extended element ∙ ap (λ e. elements_if e a.kind) (c.if-not-extended.true) in
-    (λ q. continues_same (ap (◌then q) none), c.requires.1)
-
--- the count, kept
-
--- what is counted
+    (λ q. continues_same (ap (◌then q) (elements-are c.args.kind element c.if-not-extended.true)), c.requires.1)
 
 pub returns-in-Past : goal.returns-in-Past
-unfolding elements_if
 returns-in-Past c =
-    let count_kept : let a = c.args in
-    Keeping (length_within 0 255) a.message.now a.room (state_at a.cursor a.values.now a.packed.now)
-    c.kept-step.new.packed c.kept-step.new.1.1.0 c.length-item.result c.kept-step.result = keeping _ refl c.length-item.ensures c.kept-step.ensures in
-    let counted-items : (q : Items) → let a = c.args in
-    strings_items a.kind a.extended then q ≡ ask (length_within 0 255) (λ v. times (natural v) (string_items a.kind) then q) = λ q. (let a = c.args in
+    let a = c.args in
     let element = sym c.is_content.ensures ∙ c.if-is_content.false in
-    ap (◌then q) (elements-are a.kind a.extended element ∙ ap (λ e. elements_if e a.kind) (c.if-not-extended.false))) in
-    let told = c.in-Past.is in
+    let count-kept : Keeping (length_within 0 255) a.message.now a.room (state_at a.cursor a.values.now a.packed.now) _ _ _ _ = keeping _ refl c.length-item.ensures c.kept-step.ensures in
     rw c.count_of.ensures (
-      λ q. first-kept _ _ (counted-items q) (count_kept) told,
-      aligned_after (whole_one _ (length-octets 0 255)) c.requires.1 (reads_one c.kept-step.result (count_kept)) told,
+      λ q. first-kept _ _ (counted-items a.kind element c.if-not-extended.false q) count-kept c.in-Past.is,
+      aligned_after (whole_one _ (length-octets 0 255)) c.requires.1 (reads_one c.kept-step.result count-kept) c.in-Past.is,
     )
 
 pub returns-in-Refused : goal.returns-in-Refused
-unfolding elements_if
 returns-in-Refused c =
-    let count_kept : let a = c.args in
-    Keeping (length_within 0 255) a.message.now a.room (state_at a.cursor a.values.now a.packed.now)
-    c.kept-step.new.packed c.kept-step.new.1.1.0 c.length-item.result c.kept-step.result = keeping _ refl c.length-item.ensures c.kept-step.ensures in
-    let counted-items : (q : Items) → let a = c.args in
-    strings_items a.kind a.extended then q ≡ ask (length_within 0 255) (λ v. times (natural v) (string_items a.kind) then q) = λ q. (let a = c.args in
     let element = sym c.is_content.ensures ∙ c.if-is_content.false in
-    ap (◌then q) (elements-are a.kind a.extended element ∙ ap (λ e. elements_if e a.kind) (c.if-not-extended.false))) in
-    λ q. first_refused _ _ (counted-items q) (count_kept) c.in-Refused.is
+    λ q. first_refused _ _ (counted-items c.args.kind element c.if-not-extended.false q) (keeping _ refl c.length-item.ensures c.kept-step.ensures) c.in-Refused.is

@@ -36,8 +36,7 @@ loop-done-preserved c =
     let done = c.loop-done.done in
     let more : a.count - done ≡ suc (a.count - (done + 1)) = omega (arith, c.loop-done-test.true) in
     times_more (a.count - done) (a.count - (done + 1)) (string_items a.kind) more in
-    let a = c.args in
-    (
+    let a = c.args in (
       omega (arith, c.loop-done-test.true),
       search rules,
       search rules,

@@ -12,24 +12,12 @@ use Rattle.lm_guard.proofs.Tests.{lm_fits}
 use borrow.Author.Rules.{rules}
 use Rattle.messages.proofs.read_lm.Goals as goal
 
-pub slice_bounds-lm_message-end : goal.slice_bounds-lm_message-end
-slice_bounds-lm_message-end c = search rules
-
-pub lm_message-answer-requires : goal.lm_message-answer-requires
-lm_message-answer-requires c = search rules
-
-pub kept_count-kept-requires : goal.kept_count-kept-requires
-kept_count-kept-requires c = search rules
-
 pub clear_values-requires : goal.clear_values-requires
 clear_values-requires c =
     let a = c.args in
     let o = read_lm_outcome a.message.now (length a.values.now) in
     let k : c.kept_count-kept.result ≡ length (read_values o) = c.kept_count-kept.ensures ∙ ap kept_count c.lm_message-answer.ensures.0 ∙ count-is o in
     omega (arith, lm_fits a.message.now (length a.values.now), c.lm_message-answer.auto.values)
-
-pub shape_of-values : goal.shape_of-values
-shape_of-values c = search rules
 
 pub returns : goal.returns
 returns c =

@@ -16,9 +16,6 @@ pub read_known-requires : goal.read_known-requires
 unfolding sam
 read_known-requires c = (sam-obeys, sym sam-root)
 
-pub shape_of-values : goal.shape_of-values
-shape_of-values c = search rules
-
 pub returns : goal.returns
 unfolding sam
 returns c = c.read_Known.ensures

@@ -16,9 +16,6 @@ pub read_known-requires : goal.read_known-requires
 unfolding srm
 read_known-requires c = (srm-obeys, sym srm-root)
 
-pub shape_of-values : goal.shape_of-values
-shape_of-values c = search rules
-
 pub returns : goal.returns
 unfolding srm
 returns c = c.read_Known.ensures

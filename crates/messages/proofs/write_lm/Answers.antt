@@ -14,21 +14,6 @@ use Rattle.lm_guard.proofs.ListTests.{list-passed, list-refused}
 use borrow.Author.Rules.{rules}
 use Rattle.messages.proofs.write_lm.Goals as goal
 
-pub lm_list_tested-tested-requires : goal.lm_list_tested-tested-requires
-lm_list_tested-tested-requires c = search rules
-
-pub enum_told-1 : goal.enum_told-1
-enum_told-1 c = search rules
-
-pub enum_told-in_default : goal.enum_told-in_default
-enum_told-in_default c = search rules
-
-pub clear_octets-requires : goal.clear_octets-requires
-clear_octets-requires c = search rules
-
-pub shape_of-output-in_default : goal.shape_of-output-in_default
-shape_of-output-in_default c = search rules
-
 pub returns-in_default : goal.returns-in_default
 returns-in_default c =
     let a = c.args in
@@ -48,9 +33,6 @@ slice-aggregate-write-known-2 c = search rules
 pub write_known-requires : goal.write_known-requires
 unfolding lm
 write_known-requires c = (lm-obeys, sym lm-root)
-
-pub shape_of-output : goal.shape_of-output
-shape_of-output c = search rules
 
 pub returns : goal.returns
 unfolding lm values_in values_from

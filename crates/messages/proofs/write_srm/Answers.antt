@@ -21,9 +21,6 @@ pub write_known-requires : goal.write_known-requires
 unfolding srm
 write_known-requires c = (srm-obeys, sym srm-root)
 
-pub shape_of-output : goal.shape_of-output
-shape_of-output c = search rules
-
 pub returns : goal.returns
 unfolding srm values_in values_from
 returns c = rw append-nil at c.write_known.ensures

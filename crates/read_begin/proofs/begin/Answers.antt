@@ -1,9 +1,7 @@
 -- `read_begin::begin` meets its contract. By the kind of the row.
 -- Assumes nothing.
-use Prim.Native.Nat.{◌+◌}
-use mathlib.Core.Path.{◌≡◌, sym, ◌∙◌}
+use mathlib.Core.Path.{sym, ◌∙◌}
 use native.Mathlib.Omega.{arith}
-use Rattle.octets.specs.Numbers.{u16}
 use Rattle.row.proofs.Fits.{fixed_fits, octets_fits, last_kind}
 use Rattle.encoding.proofs.RowItems.{asks-fixed}
 use Rattle.guard.specs.Readable.{asks_from}
@@ -33,17 +31,7 @@ run_of-requires c =
 
 pub octets-requires : goal.octets-requires
 octets-requires c =
-    let t = c.args.table.now in
-    let kind = c.args.at + 2 in
-    let k = c.kind_at-kind.ensures.0 in
-    let r = c.in_default.rest in
-    let is = last_kind c.requires.0.readable.row
-    (λ (e : u16 t kind ≡ 1). r.0.0.0.0.1 (k ∙ e))
-    (λ (e : u16 t kind ≡ 2). r.0.0.0.1 (k ∙ e))
-    (λ (e : u16 t kind ≡ 3). r.0.0.1 (k ∙ e))
-    (λ (e : u16 t kind ≡ 4). r.0.1 (k ∙ e))
-    (λ (e : u16 t kind ≡ 5). r.1 (k ∙ e))
-    c.requires.1 in
+    let is = last_kind c.requires.0.readable.row (λ e. omega arith) (λ e. omega arith) (λ e. omega arith) (λ e. omega arith) (λ e. omega arith) c.requires.1 in
     ((octets_fits c.requires.0.readable.row is).1, c.requires.2)
 
 pub returns-in-1 : goal.returns-in-1
@@ -64,15 +52,5 @@ returns-in-3 c =
 
 pub returns-in_default : goal.returns-in_default
 returns-in_default c =
-    let t = c.args.table.now in
-    let kind = c.args.at + 2 in
-    let k = c.kind_at-kind.ensures.0 in
-    let r = c.in_default.rest in
-    let is = last_kind c.requires.0.readable.row
-    (λ (e : u16 t kind ≡ 1). r.0.0.0.0.1 (k ∙ e))
-    (λ (e : u16 t kind ≡ 2). r.0.0.0.1 (k ∙ e))
-    (λ (e : u16 t kind ≡ 3). r.0.0.1 (k ∙ e))
-    (λ (e : u16 t kind ≡ 4). r.0.1 (k ∙ e))
-    (λ (e : u16 t kind ≡ 5). r.1 (k ∙ e))
-    c.requires.1 in
-    rw c.whole-in_default.ensures (begins-reads t c.args.at c.octets.result (rw (octets-asks c.requires.0.readable is) c.octets.ensures))
+    let is = last_kind c.requires.0.readable.row (λ e. omega arith) (λ e. omega arith) (λ e. omega arith) (λ e. omega arith) (λ e. omega arith) c.requires.1 in
+    rw c.whole-in_default.ensures (begins-reads c.args.table.now c.args.at c.octets.result (rw (octets-asks c.requires.0.readable is) c.octets.ensures))

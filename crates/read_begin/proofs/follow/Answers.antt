@@ -1,6 +1,5 @@
 use Prim.Native.Nat.{ℕ, ◌+◌}
-use mathlib.Core.Bool.{true, false}
-use mathlib.Core.Logic.{⊎_elim}
+use mathlib.Core.Bool.{false}
 use mathlib.Core.Path.{◌≡◌, refl, sym, ap, ◌∙◌}
 use native.Mathlib.Omega.{arith}
 use borrow.Author.Rules.{rules}
@@ -11,6 +10,7 @@ use Rattle.guard.proofs.Readable.{Reached, reached-table, reached-led, branch_ne
 use Rattle.read_steps.proofs.Flow.{continues-trans, continues_same}
 use Rattle.read_begin.proofs.Beginnings.{never_reads}
 use Rattle.read_begin.proofs.follow.Goals as goal
+use Rattle.read_begin.proofs.follow.Goals.{Joined-else-table-gt-MOST_TABLE, else-table-gt-MOST_TABLE-via-then-table-gt-MOST_TABLE+else-not-leads, else-table-gt-MOST_TABLE-via-else-table-gt-MOST_TABLE}
 
 pub loop-values-init : goal.loop-values-init
 loop-values-init c = (c.requires.0, omega arith, (λ n. refl), refl, refl, continues_same refl)
@@ -40,29 +40,31 @@ returns-then-not-leads c =
     ((continues-trans c.loop-values.invariant.5 (continues-trans chosen.2 (continues_same (branch_never t c.loop-values.row _ c.if-table-gt-MOST_TABLE.true chosen.1 apart)))).complete _ _ _ (never_reads _))
 
 -- a branch that the loop goes on with
+reached : (c : Joined-else-table-gt-MOST_TABLE) → Reached c.args.table.now c.loop-values.row c.in-Row.branch
+reached c =
+    let row = c.loop-values.invariant.0 in
+    let chosen = rw c.in-Row.is at c.choose-chosen.ensures in
+    elim c.else-table-gt-MOST_TABLE.branch [
+      | else-table-gt-MOST_TABLE-via-then-table-gt-MOST_TABLE+else-not-leads w ↦
+          reached-led row w.if-table-gt-MOST_TABLE.true chosen.1 (sym w.leads.ensures ∙ w.if-not-leads.false)
+      | else-table-gt-MOST_TABLE-via-else-table-gt-MOST_TABLE w ↦ reached-table row w.if-table-gt-MOST_TABLE.false chosen.0
+    ]
 
 pub loop-values-smaller : goal.loop-values-smaller
-loop-values-smaller c =
-    let reached : Reached c.args.table.now c.loop-values.row c.in-Row.branch = let row = c.loop-values.invariant.0 in
-    let chosen = rw c.in-Row.is at c.choose-chosen.ensures in
-    ⊎_elim
-    (λ w. reached-led row w.0.taken chosen.1 (sym w.1.ensures ∙ w.2.left))
-    (λ w. reached-table row w.left chosen.0)
-    c.if-table-gt-MOST_TABLE.branch in
-    (reached).below
+loop-values-smaller c = (reached c).below
 
 pub loop-values-preserved : goal.loop-values-preserved
 loop-values-preserved c =
-    let reached : Reached c.args.table.now c.loop-values.row c.in-Row.branch = let row = c.loop-values.invariant.0 in
     let chosen = rw c.in-Row.is at c.choose-chosen.ensures in
-    ⊎_elim
-    (λ w. reached-led row w.0.taken chosen.1 (sym w.1.ensures ∙ w.2.left))
-    (λ w. reached-table row w.left chosen.0)
-    c.if-table-gt-MOST_TABLE.branch in
-    let chosen = rw c.in-Row.is at c.choose-chosen.ensures in
-    let on = reached in
-    let kind = sym c.kind_at.ensures.0 ∙ c.loop-values-test.true in
-    (on.readable, omega (arith, c.loop-values.invariant.1, on.below), (λ n. absurd (n (ap (λ (x : ℕ). u16 c.args.table.now (x + 2)) (sym (c.loop-values.invariant.2 n)) ∙ kind))), search rules, search rules, continues-trans c.loop-values.invariant.5 (continues-trans chosen.2 (continues_same on.same)))
+    let on = reached c in
+    let kind = sym c.kind_at.ensures.0 ∙ c.loop-values-test.true in (
+      on.readable,
+      omega (arith, c.loop-values.invariant.1, on.below),
+      (λ n. absurd (n (ap (λ (x : ℕ). u16 c.args.table.now (x + 2)) (sym (c.loop-values.invariant.2 n)) ∙ kind))),
+      search rules,
+      search rules,
+      continues-trans c.loop-values.invariant.5 (continues-trans chosen.2 (continues_same on.same)),
+    )
 
 pub returns : goal.returns
 returns c =

@@ -6,8 +6,8 @@ use native.Mathlib.Omega.{arith}
 use borrow.Author.Tests.{ne_eqb}
 use lib.IntN.{pos}
 use Rattle.item.specs.Code.{number}
-use Rattle.read_steps.specs.Reads.{state_at, count_of}
-use Rattle.read_steps.proofs.Keeping.{Keeping, keeping}
+use Rattle.read_steps.specs.Reads.{count_of}
+use Rattle.read_steps.proofs.Keeping.{keeping}
 use Rattle.read_begin.proofs.Beginnings.{marks-always, marks-refused, marks-bit}
 use Rattle.read_begin.proofs.mark.Goals as goal
 
@@ -16,32 +16,23 @@ returns-then-flag-eq0 c =
     let a = c.args in
     marks-always a.flag a.mask _ c.if-flag-eq0.true refl
 
--- the presence bit, kept
-
 pub returns-in_default : goal.returns-in_default
 returns-in_default c =
-    let bit_kept : let a = c.args in
-    Keeping (number (pos 0) 1) a.message.now a.room (state_at a.cursor a.values.now a.packed.now)
-    c.kept-step.new.packed c.kept-step.new.1.1.0 c.number-item.result c.kept-step.result = keeping (number (pos 0) 1) refl c.number-item.ensures c.kept-step.ensures in
-    let told = c.in_default.is in
-    rw (c.whole.ensures, told) (marks-refused c.if-flag-eq0.false (bit_kept) told)
+    let bit-kept = keeping (number (pos 0) 1) refl c.number-item.ensures c.kept-step.ensures in
+    rw (c.whole.ensures, c.in_default.is) (marks-refused c.if-flag-eq0.false bit-kept c.in_default.is)
 
 pub returns-then-count_of-eq1 : goal.returns-then-count_of-eq1
 returns-then-count_of-eq1 c =
-    let bit_kept : let a = c.args in
-    Keeping (number (pos 0) 1) a.message.now a.room (state_at a.cursor a.values.now a.packed.now)
-    c.kept-step.new.packed c.kept-step.new.1.1.0 c.number-item.result c.kept-step.result = keeping (number (pos 0) 1) refl c.number-item.ensures c.kept-step.ensures in
     let a = c.args in
+    let bit-kept = keeping (number (pos 0) 1) refl c.number-item.ensures c.kept-step.ensures in
     let odd : (a.mask * 2 + 1) % 2 ≡ 1 = omega arith in
     let one : count_of c.number-item.result ≡ 1 = sym c.count_of.ensures ∙ c.if-count_of-eq1.true in
-    marks-bit c.if-flag-eq0.false (bit_kept) a.mask (a.mask * 2 + 1) c.in-Past.is (omega arith) (rw (odd, one))
+    marks-bit c.if-flag-eq0.false bit-kept a.mask (a.mask * 2 + 1) c.in-Past.is (omega arith) (rw (odd, one))
 
 pub returns : goal.returns
 returns c =
-    let bit_kept : let a = c.args in
-    Keeping (number (pos 0) 1) a.message.now a.room (state_at a.cursor a.values.now a.packed.now)
-    c.kept-step.new.packed c.kept-step.new.1.1.0 c.number-item.result c.kept-step.result = keeping (number (pos 0) 1) refl c.number-item.ensures c.kept-step.ensures in
     let a = c.args in
+    let bit-kept = keeping (number (pos 0) 1) refl c.number-item.ensures c.kept-step.ensures in
     let even : (a.mask * 2) % 2 ≡ 0 = omega arith in
-    marks-bit c.if-flag-eq0.false (bit_kept) a.mask (a.mask * 2) c.in-Past.is
+    marks-bit c.if-flag-eq0.false bit-kept a.mask (a.mask * 2) c.in-Past.is
     (omega arith) (rw (even, ne_eqb (count_of c.number-item.result) 1 (λ e. c.if-count_of-eq1.false (c.count_of.ensures ∙ e))))

@@ -2,27 +2,19 @@
 -- Assumes nothing.
 use mathlib.Core.Path.{◌≡◌, sym, ap, ◌∙◌}
 use native.Mathlib.Omega.{arith}
-use borrow.Author.Rules.{rules}
 use mir.Syntax.{w64}
-use mir.Val.{to_z, of_z}
+use mir.Val.{to_z}
 use lib.IntN.{pos}
 use Rattle.item.proofs.Naturals.{held}
 use Rattle.read_leaf.proofs.numbers.Goals as goal
 
--- the row's low, as the code holds it
-
 pub returns-then-low-eq0 : goal.returns-then-low-eq0
 returns-then-low-eq0 c =
-    let low_held : to_z w64 (of_z w64 c.low_at-low.result) ≡ c.low_at-low.result = held c.low_at-low.result (omega (arith, c.low_at-low.ensures.1)) in
-    let zero : c.low_at-low.result ≡ pos 0 = sym (low_held) ∙ ap (to_z w64) c.if-low-eq0.true in
+    let low-held = held c.low_at-low.result (omega (arith, c.low_at-low.ensures.1)) in
+    let zero : c.low_at-low.result ≡ pos 0 = sym low-held ∙ ap (to_z w64) c.if-low-eq0.true in
     rw (← c.low_at-low.ensures.0, ← c.span_at-span.ensures.0, zero, c.if-span-eq255.true) c.read_octets.ensures
-
-pub read_numbers-requires : goal.read_numbers-requires
-read_numbers-requires c =
-    let low_held : to_z w64 (of_z w64 c.low_at-low.result) ≡ c.low_at-low.result = held c.low_at-low.result (omega (arith, c.low_at-low.ensures.1)) in
-    (search rules, rw (low_held) c.low_at-low.ensures.1)
 
 pub returns : goal.returns
 returns c =
-    let low_held : to_z w64 (of_z w64 c.low_at-low.result) ≡ c.low_at-low.result = held c.low_at-low.result (omega (arith, c.low_at-low.ensures.1)) in
-    rw (← c.low_at-low.ensures.0, ← c.span_at-span.ensures.0) (rw (low_held) at c.read_numbers.ensures)
+    let low-held = held c.low_at-low.result (omega (arith, c.low_at-low.ensures.1)) in
+    rw (← c.low_at-low.ensures.0, ← c.span_at-span.ensures.0) (rw low-held at c.read_numbers.ensures)

@@ -1,54 +1,36 @@
 -- `read_leaf::octets` meets its contract. A length, read and kept; then the octets.
 -- Assumes nothing.
-use Prim.Native.Nat.{◌+◌}
+use Prim.Native.Nat.{ℕ, ◌+◌}
 use mathlib.Core.Path.{◌≡◌, refl}
+use mathlib.Core.List.{List}
 use native.Mathlib.Omega.{arith}
-use lib.IntN.{pos}
-use Rattle.item.specs.Code.{number, length_within, natural}
 use Rattle.octets.specs.Numbers.{u16}
 use Rattle.row.specs.Kinds.{least_length}
-use Rattle.items.specs.Items.{ask, one, times}
-use Rattle.encoding.specs.Rows.{octets_within}
+use Rattle.item.specs.Code.{length_within}
 use Rattle.encoding.proofs.RowItems.{octets_length}
-use Rattle.read_steps.specs.Reads.{state_at}
-use Rattle.read_steps.proofs.Keeping.{Keeping, keeping, first_refused, first-kept}
+use Rattle.read_steps.proofs.Keeping.{keeping, first_refused, first-kept}
 use Rattle.read_leaf.proofs.octets.Goals as goal
 
--- what the row asks for
+-- the length that is read is the row's
+length-asked : (t : List ℕ) (at : ℕ) {kind least most : ℕ} → kind ≡ u16 t (at + 2) → least ≡ least_length kind → most ≡ u16 t (at + 4)
+    → length_within least most ≡ octets_length t at
+unfolding octets_length
+length-asked t at k l m = rw (l, k, m)
 
 pub kind_at-kind-requires : goal.kind_at-kind-requires
-kind_at-kind-requires c =
-    omega (arith, c.requires.0)
-
-pub count_at-most-requires : goal.count_at-most-requires
-count_at-most-requires c =
-    c.requires.0
-
--- the code that is read, as the row has it
-
--- the length, kept
+kind_at-kind-requires c = omega arith
 
 pub returns-in_default : goal.returns-in_default
 unfolding octets_length
 returns-in_default c =
-    let row-items : let t = c.args.table.now in let at = c.args.at in
-    octets_within (least_length (u16 t (at + 2))) (u16 t (at + 4)) ≡ ask (octets_length t at) (λ v. times (natural v) (one (number (pos 0) 255))) = refl in
-    let length-asked : let a = c.args in
-    length_within c.least_length-least.result c.count_at-most.result ≡ octets_length a.table.now a.at = rw (c.least_length-least.ensures, c.kind_at-kind.ensures.0, c.count_at-most.ensures.0) in
-    let length-kept : let a = c.args in
-    Keeping (octets_length a.table.now a.at) a.message.now a.room (state_at a.cursor a.values.now a.packed.now)
-    c.kept-step.new.packed c.kept-step.new.1.1.0 c.length-item.result c.kept-step.result = keeping _ (length-asked) c.length-item.ensures c.kept-step.ensures in
-    let told = c.in_default.is in
-    rw told (first_refused _ _ (row-items) (length-kept) told)
+    let a = c.args in
+    let asked = length-asked a.table.now a.at c.kind_at-kind.ensures.0 c.least_length-least.ensures c.count_at-most.ensures.0 in
+    rw c.in_default.is (first_refused (octets_length a.table.now a.at) _ refl (keeping _ asked c.length-item.ensures c.kept-step.ensures) c.in_default.is)
 
 pub returns : goal.returns
 unfolding octets_length
 returns c =
-    let row-items : let t = c.args.table.now in let at = c.args.at in
-    octets_within (least_length (u16 t (at + 2))) (u16 t (at + 4)) ≡ ask (octets_length t at) (λ v. times (natural v) (one (number (pos 0) 255))) = refl in
-    let length-asked : let a = c.args in
-    length_within c.least_length-least.result c.count_at-most.result ≡ octets_length a.table.now a.at = rw (c.least_length-least.ensures, c.kind_at-kind.ensures.0, c.count_at-most.ensures.0) in
-    let length-kept : let a = c.args in
-    Keeping (octets_length a.table.now a.at) a.message.now a.room (state_at a.cursor a.values.now a.packed.now)
-    c.kept-step.new.packed c.kept-step.new.1.1.0 c.length-item.result c.kept-step.result = keeping _ (length-asked) c.length-item.ensures c.kept-step.ensures in
-    (first-kept _ _ (row-items) (length-kept) c.in-Past.is).complete _ _ _ (rw c.count_of-count.ensures at c.read_octets.ensures)
+    let a = c.args in
+    let asked = length-asked a.table.now a.at c.kind_at-kind.ensures.0 c.least_length-least.ensures c.count_at-most.ensures.0 in
+    let first = first-kept (octets_length a.table.now a.at) _ refl (keeping _ asked c.length-item.ensures c.kept-step.ensures) c.in-Past.is in
+    first.complete _ _ _ (rw c.count_of-count.ensures at c.read_octets.ensures)

@@ -1,13 +1,11 @@
 -- `rules::kind_test` meets its contract. Each way out is the first part that breaks a rule, and the last that all keep theirs.
 use borrow.Author.Tests.{eqb-true}
 use native.Mathlib.Omega.{arith}
-use mathlib.Core.Bool.{true}
-use mathlib.Core.Path.{◌≡◌, refl, sym, ◌∙◌}
-use lib.Dec.{eqb}
+use mathlib.Core.Path.{refl, sym, ◌∙◌}
 use Rattle.row.specs.Kinds.{length_of, count_of}
 use Rattle.row.proofs.ByKind.{least-length, two-apart}
-use Rattle.rules.specs.Steps.{spread, deepest_from}
-use Rattle.rules.proofs.Steps.{numbers_of, references_of, length-broken, row_inside, references_inside, numbers-broken, reference-broken, branch-broken, depth-broken, row-sound}
+use Rattle.rules.specs.Steps.{spread}
+use Rattle.rules.proofs.Steps.{length-broken, row_inside, references_inside, numbers-broken, reference-broken, branch-broken, depth-broken, row-sound}
 use Rattle.rules.proofs.kind_test.Goals as goal
 
 pub returns-then-not-length_right : goal.returns-then-not-length_right
@@ -20,57 +18,54 @@ count_of-count-requires c =
     let e = eqb-true c.args.size (length_of c.args.kind m) (sym c.length_right.ensures ∙ c.if-not-length_right.false) in
     omega (arith, least-length c.args.kind m c.requires.1.known, c.requires.1.inside)
 
--- past the count: the length is that of the kind with it
-
 pub numbers_right-requires : goal.numbers_right-requires
 numbers_right-requires c =
-    let long : eqb c.args.size (length_of c.args.kind c.count_of-count.result) ≡ true = rw c.count_of-count.ensures.0 (sym c.length_right.ensures ∙ c.if-not-length_right.false) in
-    (row_inside (spread c.args.depths.now) c.requires.1 c.count_of-count.result c.count_of-count.ensures.0 (long), c.requires.0)
+    let m = c.count_of-count in
+    let long = rw (← m.ensures.0) at (sym c.length_right.ensures ∙ c.if-not-length_right.false) in
+    (row_inside (spread c.args.depths.now) c.requires.1 m.result m.ensures.0 long, c.requires.0)
 
 pub returns-then-not-numbers_right : goal.returns-then-not-numbers_right
 returns-then-not-numbers_right c =
-    let long : eqb c.args.size (length_of c.args.kind c.count_of-count.result) ≡ true = rw c.count_of-count.ensures.0 (sym c.length_right.ensures ∙ c.if-not-length_right.false) in
-    numbers-broken (spread c.args.depths.now) c.requires.1 c.count_of-count.result c.count_of-count.ensures.0 (long)
+    let m = c.count_of-count in
+    let long = rw (← m.ensures.0) at (sym c.length_right.ensures ∙ c.if-not-length_right.false) in
+    numbers-broken (spread c.args.depths.now) c.requires.1 m.result m.ensures.0 long
     (sym c.numbers_right.ensures ∙ c.if-not-numbers_right.true)
-
--- past the numbers: they are in bounds
 
 pub deepest-below-requires : goal.deepest-below-requires
 deepest-below-requires c =
-    let long : eqb c.args.size (length_of c.args.kind c.count_of-count.result) ≡ true = rw c.count_of-count.ensures.0 (sym c.length_right.ensures ∙ c.if-not-length_right.false) in
+    let m = c.count_of-count in
+    let long = rw (← m.ensures.0) at (sym c.length_right.ensures ∙ c.if-not-length_right.false) in
     rw (c.reference_step-step.ensures, c.reference_count-n.ensures)
-    (two-apart c.args.kind, references_inside (spread c.args.depths.now) c.requires.1 c.count_of-count.result c.count_of-count.ensures.0 (long))
-
--- past the references: what the rows referred to give
+    (two-apart c.args.kind, references_inside (spread c.args.depths.now) c.requires.1 m.result m.ensures.0 long)
 
 pub returns-in_default : goal.returns-in_default
 returns-in_default c =
-    let long : eqb c.args.size (length_of c.args.kind c.count_of-count.result) ≡ true = rw c.count_of-count.ensures.0 (sym c.length_right.ensures ∙ c.if-not-length_right.false) in
-    let bounded : numbers_of c.args.table.now c.args.at c.args.kind c.count_of-count.result ≡ true = sym c.numbers_right.ensures ∙ c.if-not-numbers_right.false in
-    let deepest-of : deepest_from (spread c.args.depths.now) 0 (references_of c.args.table.now c.args.at c.args.kind c.count_of-count.result) ≡ c.deepest-below.result = sym (rw (c.reference_step-step.ensures, c.reference_count-n.ensures, c.may_reserve-reserved.ensures) at c.deepest-below.ensures) in
-    reference-broken (spread c.args.depths.now) c.requires.1 c.count_of-count.result c.count_of-count.ensures.0 (long) (bounded)
-    (deepest-of ∙ c.in_default.is)
+    let m = c.count_of-count in
+    let long = rw (← m.ensures.0) at (sym c.length_right.ensures ∙ c.if-not-length_right.false) in
+    let found = sym (rw (c.reference_step-step.ensures, c.reference_count-n.ensures, c.may_reserve-reserved.ensures) at c.deepest-below.ensures) in
+    reference-broken (spread c.args.depths.now) c.requires.1 m.result m.ensures.0 long (sym c.numbers_right.ensures ∙ c.if-not-numbers_right.false)
+    (found ∙ c.in_default.is)
 
 pub returns-then-depth-least_below : goal.returns-then-depth-least_below
 returns-then-depth-least_below c =
-    let long : eqb c.args.size (length_of c.args.kind c.count_of-count.result) ≡ true = rw c.count_of-count.ensures.0 (sym c.length_right.ensures ∙ c.if-not-length_right.false) in
-    let bounded : numbers_of c.args.table.now c.args.at c.args.kind c.count_of-count.result ≡ true = sym c.numbers_right.ensures ∙ c.if-not-numbers_right.false in
-    let deepest-of : deepest_from (spread c.args.depths.now) 0 (references_of c.args.table.now c.args.at c.args.kind c.count_of-count.result) ≡ c.deepest-below.result = sym (rw (c.reference_step-step.ensures, c.reference_count-n.ensures, c.may_reserve-reserved.ensures) at c.deepest-below.ensures) in
-    branch-broken (spread c.args.depths.now) c.requires.1 c.count_of-count.result c.count_of-count.ensures.0 (long) (bounded)
-    c.in-Depth.depth (deepest-of ∙ c.in-Depth.is) (omega arith)
+    let m = c.count_of-count in
+    let long = rw (← m.ensures.0) at (sym c.length_right.ensures ∙ c.if-not-length_right.false) in
+    let found = sym (rw (c.reference_step-step.ensures, c.reference_count-n.ensures, c.may_reserve-reserved.ensures) at c.deepest-below.ensures) in
+    branch-broken (spread c.args.depths.now) c.requires.1 m.result m.ensures.0 long (sym c.numbers_right.ensures ∙ c.if-not-numbers_right.false)
+    c.in-Depth.depth (found ∙ c.in-Depth.is) (omega arith)
 
 pub returns-then-depth-ge-MOST_DEPTH : goal.returns-then-depth-ge-MOST_DEPTH
 returns-then-depth-ge-MOST_DEPTH c =
-    let long : eqb c.args.size (length_of c.args.kind c.count_of-count.result) ≡ true = rw c.count_of-count.ensures.0 (sym c.length_right.ensures ∙ c.if-not-length_right.false) in
-    let bounded : numbers_of c.args.table.now c.args.at c.args.kind c.count_of-count.result ≡ true = sym c.numbers_right.ensures ∙ c.if-not-numbers_right.false in
-    let deepest-of : deepest_from (spread c.args.depths.now) 0 (references_of c.args.table.now c.args.at c.args.kind c.count_of-count.result) ≡ c.deepest-below.result = sym (rw (c.reference_step-step.ensures, c.reference_count-n.ensures, c.may_reserve-reserved.ensures) at c.deepest-below.ensures) in
-    depth-broken (spread c.args.depths.now) c.requires.1 c.count_of-count.result c.count_of-count.ensures.0 (long) (bounded)
-    c.in-Depth.depth (deepest-of ∙ c.in-Depth.is) (omega arith) (omega arith)
+    let m = c.count_of-count in
+    let long = rw (← m.ensures.0) at (sym c.length_right.ensures ∙ c.if-not-length_right.false) in
+    let found = sym (rw (c.reference_step-step.ensures, c.reference_count-n.ensures, c.may_reserve-reserved.ensures) at c.deepest-below.ensures) in
+    depth-broken (spread c.args.depths.now) c.requires.1 m.result m.ensures.0 long (sym c.numbers_right.ensures ∙ c.if-not-numbers_right.false)
+    c.in-Depth.depth (found ∙ c.in-Depth.is) (omega arith) (omega arith)
 
 pub returns : goal.returns
 returns c =
-    let long : eqb c.args.size (length_of c.args.kind c.count_of-count.result) ≡ true = rw c.count_of-count.ensures.0 (sym c.length_right.ensures ∙ c.if-not-length_right.false) in
-    let bounded : numbers_of c.args.table.now c.args.at c.args.kind c.count_of-count.result ≡ true = sym c.numbers_right.ensures ∙ c.if-not-numbers_right.false in
-    let deepest-of : deepest_from (spread c.args.depths.now) 0 (references_of c.args.table.now c.args.at c.args.kind c.count_of-count.result) ≡ c.deepest-below.result = sym (rw (c.reference_step-step.ensures, c.reference_count-n.ensures, c.may_reserve-reserved.ensures) at c.deepest-below.ensures) in
-    row-sound (spread c.args.depths.now) c.requires.1 c.count_of-count.result c.count_of-count.ensures.0 (long) (bounded)
-    c.in-Depth.depth (deepest-of ∙ c.in-Depth.is) (omega arith) (omega arith)
+    let m = c.count_of-count in
+    let long = rw (← m.ensures.0) at (sym c.length_right.ensures ∙ c.if-not-length_right.false) in
+    let found = sym (rw (c.reference_step-step.ensures, c.reference_count-n.ensures, c.may_reserve-reserved.ensures) at c.deepest-below.ensures) in
+    row-sound (spread c.args.depths.now) c.requires.1 m.result m.ensures.0 long (sym c.numbers_right.ensures ∙ c.if-not-numbers_right.false)
+    c.in-Depth.depth (found ∙ c.in-Depth.is) (omega arith) (omega arith)

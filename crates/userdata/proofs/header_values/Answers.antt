@@ -21,24 +21,9 @@ asked : (o : ℕ) {message : List ℕ} {room : ℕ} {from : State} {values : Lis
     → Reads message room (asks_at lm o) from values packed step → Reads message room (items lm o) from values packed step
 asked o r = rw (asks-table lm o lm-obeys.most) at r
 
-pub slice_bounds-read_row-end-2 : goal.slice_bounds-read_row-end-2
-slice_bounds-read_row-end-2 c = search rules
-
-pub slice_bounds-read_row-end-3 : goal.slice_bounds-read_row-end-3
-slice_bounds-read_row-end-3 c = search rules
-
-pub slice_bounds-read_row-end-5 : goal.slice_bounds-read_row-end-5
-slice_bounds-read_row-end-5 c = search rules
-
 pub read_row-network-requires : goal.read_row-network-requires
 unfolding lm
 read_row-network-requires c = (readable-table lm-obeys network-starts, tested-table lm 204 lm-obeys.most, c.requires)
-
-pub enum_known-network : goal.enum_known-network
-enum_known-network c = search rules
-
-pub enum_told-1 : goal.enum_told-1
-enum_told-1 c = search rules
 
 pub returns-in_default : goal.returns-in_default
 unfolding lm
@@ -62,12 +47,6 @@ slice-aggregate-read-row-6 c = search rules
 pub read_row-transport-requires : goal.read_row-transport-requires
 unfolding lm
 read_row-transport-requires c = (readable-table lm-obeys transport-starts, tested-table lm 278 lm-obeys.most, c.requires)
-
-pub enum_known-transport : goal.enum_known-transport
-enum_known-transport c = search rules
-
-pub enum_told-in_default-transport : goal.enum_told-in_default-transport
-enum_told-in_default-transport c = search rules
 
 pub returns-in_default-transport : goal.returns-in_default-transport
 unfolding lm

@@ -9,18 +9,6 @@ use Rattle.userdata.proofs.Outcome.{found-ends}
 use borrow.Author.Rules.{rules}
 use Rattle.userdata.proofs.user_data.Goals as goal
 
-pub user_data_place-found-requires : goal.user_data_place-found-requires
-user_data_place-found-requires c = search rules
-
-pub enum_known-found : goal.enum_known-found
-enum_known-found c = search rules
-
-pub enum_told-1 : goal.enum_told-1
-enum_told-1 c = search rules
-
-pub slice_bounds-result-end : goal.slice_bounds-result-end
-slice_bounds-result-end c = search rules
-
 pub returns-in_default : goal.returns-in_default
 returns-in_default c =
     let a = c.args.message in

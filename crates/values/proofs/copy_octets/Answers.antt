@@ -12,8 +12,7 @@ loop-i-init c = (omega arith, search rules, paste-zero c.args.octets.now c.args.
 
 pub loop-i-preserved : goal.loop-i-preserved
 loop-i-preserved c =
-    let a = c.args in
-    (
+    let a = c.args in (
       omega arith,
       search rules,
       rw (c.loop-i.invariant.2, add-one c.loop-i.i) (paste-suc a.octets.now a.from a.copied.now c.loop-i.i 0 (omega arith) (omega arith)),

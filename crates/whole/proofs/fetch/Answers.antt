@@ -17,6 +17,6 @@ pub returns : goal.returns
 returns c =
     let a = c.args in
     let p : 8 * c.octets_before-first.result.0 ≡ a.place.0 = omega (arith, c.octets_before-first.ensures) in
-    let number = rw p c.octets_before-first c.spelt-number.ensures.0 in
+    let number = rw p at c.spelt-number.ensures.0 in
     ap (λ n. Bits n (place_at (a.place.0 + 8 * a.octets))) number
     ∙ sym (fetched_inside a.message.now a.place.0 (8 * a.octets) (omega (arith, c.if-message-at.false)))

@@ -1,9 +1,8 @@
 -- `whole::spelt` meets its contract. Each octet more counts 256 times less.
 -- Assumes nothing.
-use Prim.Native.Nat.{ℕ, ◌<◌}
+use Prim.Native.Nat.{ℕ}
 use mathlib.Core.Path.{◌≡◌, sym, ◌∙◌}
 use native.Mathlib.Omega.{arith}
-use lib.ListN.{get_or}
 use Rattle.whole.proofs.Octets.{one_octet, two-octets, three-octets}
 use Rattle.whole.proofs.spelt.Goals as goal
 
@@ -11,7 +10,7 @@ pub returns-then-octets-eq1 : goal.returns-then-octets-eq1
 returns-then-octets-eq1 c =
     let a = c.args in
     let m = a.message.now in
-    let octets : (i : ℕ) → get_or m i 0 < 256 = λ i. omega (arith, c.shared_slice_known-1.given i) in
+    let octets = λ (i : ℕ). (c.type_inv.message i).fits in
     let first = c.octet_inside-one.ensures in
     rw c.if-octets-eq1.true (first.0 ∙ sym (one_octet m octets a.at (omega arith)), omega (arith, first.1))
 
@@ -19,7 +18,7 @@ pub returns-then-octets-eq2 : goal.returns-then-octets-eq2
 returns-then-octets-eq2 c =
     let a = c.args in
     let m = a.message.now in
-    let octets : (i : ℕ) → get_or m i 0 < 256 = λ i. omega (arith, c.shared_slice_known-1.given i) in
+    let octets = λ (i : ℕ). (c.type_inv.message i).fits in
     let first = c.octet_inside-one.ensures in
     let second = c.octet_inside.ensures in
     rw c.if-octets-eq2.true (rw (first.0, second.0) (sym (two-octets m octets a.at (omega arith))), omega (arith, first.1, second.1))
@@ -28,7 +27,7 @@ pub returns : goal.returns
 returns c =
     let a = c.args in
     let m = a.message.now in
-    let octets : (i : ℕ) → get_or m i 0 < 256 = λ i. omega (arith, c.shared_slice_known-1.given i) in
+    let octets = λ (i : ℕ). (c.type_inv.message i).fits in
     let first = c.octet_inside-one.ensures in
     let second = c.octet_inside.ensures in
     let third = c.octet_inside-2.ensures in

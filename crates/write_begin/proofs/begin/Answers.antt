@@ -33,16 +33,15 @@ pub octets-requires : goal.octets-requires
 octets-requires c =
     let t = c.args.table.now in
     let kind = c.args.at + 2 in
-    let k = c.kind_at-kind.ensures.0 in
-    let r = c.in_default.rest in (
+    let k = c.kind_at-kind.ensures.0 in (
       c.requires.0,
       c.requires.1,
       last_kind c.requires.0 c.requires.1
-          (λ (e : u16 t kind ≡ 1). r.0.0.0.0.1 (k ∙ e))
-          (λ (e : u16 t kind ≡ 2). r.0.0.0.1 (k ∙ e))
-          (λ (e : u16 t kind ≡ 3). r.0.0.1 (k ∙ e))
-          (λ (e : u16 t kind ≡ 4). r.0.1 (k ∙ e))
-          (λ (e : u16 t kind ≡ 5). r.1 (k ∙ e))
+          (λ (e : u16 t kind ≡ 1). omega (arith, k, e))
+          (λ (e : u16 t kind ≡ 2). omega (arith, k, e))
+          (λ (e : u16 t kind ≡ 3). omega (arith, k, e))
+          (λ (e : u16 t kind ≡ 4). omega (arith, k, e))
+          (λ (e : u16 t kind ≡ 5). omega (arith, k, e))
           c.requires.2,
       c.requires.3,
     )

@@ -1,22 +1,17 @@
-use Prim.Native.Nat.{ℕ, ◌+◌, ◌-◌, ◌*◌, ◌^◌, ◌≤◌, ◌<◌}
+use Prim.Native.Nat.{ℕ, ◌+◌, ◌*◌, ◌^◌, ◌<◌}
 use mathlib.Core.Path.{◌≡◌, refl, subst}
 use native.Mathlib.Omega.{arith}
 use borrow.Author.Rules.{rules}
-use lib.ListN.{length}
 use Rattle.octets.specs.Numbers.{u16}
-use Rattle.table.proofs.Obeyed.{RecordRow, record-row}
+use Rattle.table.proofs.Obeyed.{record-row}
 use Rattle.encoding.specs.Rows.{items}
 use Rattle.parts.proofs.Records.{record_known, record_end, mask_lt, marked_lt}
 use Rattle.write_steps.proofs.Flow.{continues-trans, continues_same}
 use Rattle.write_begin.proofs.Records.{marked_on, no-mark}
 use Rattle.write_begin.proofs.begin_record.Goals as goal
 
--- the row, and where its flag stands that the loop has come to
-
 pub count_at-fields-requires : goal.count_at-fields-requires
-count_at-fields-requires c =
-    let row-at : RecordRow c.requires.0 c.requires.1 = record-row c.requires.0 c.requires.1 c.requires.2 in
-    omega (arith, (row-at).inside)
+count_at-fields-requires c = omega (arith, (record-row c.requires.0 c.requires.1 c.requires.2).inside)
 
 pub loop-field-init : goal.loop-field-init
 loop-field-init c =
@@ -24,44 +19,38 @@ loop-field-init c =
 
 pub flag_at-flag-requires : goal.flag_at-flag-requires
 flag_at-flag-requires c =
-    let row-at : RecordRow c.requires.0 c.requires.1 = record-row c.requires.0 c.requires.1 c.requires.2 in
-    let in_row : (c.loop-field.field < u16 c.args.table.now (c.args.at + 4)) × (c.args.at + 10 + 4 * c.loop-field.field ≤ length c.args.table.now) = let e = c.count_at-fields.ensures.0 in
-    (omega (arith, c.loop-field-test.true), omega (arith, c.loop-field-test.true, (row-at).inside)) in
-    (in_row).1
+    omega (arith, c.count_at-fields.ensures.0, (record-row c.requires.0 c.requires.1 c.requires.2).inside)
 
 pub mark-begun-requires : goal.mark-begun-requires
 mark-begun-requires c =
-    let row-at : RecordRow c.requires.0 c.requires.1 = record-row c.requires.0 c.requires.1 c.requires.2 in
-    let in_row : (c.loop-field.field < u16 c.args.table.now (c.args.at + 4)) × (c.args.at + 10 + 4 * c.loop-field.field ≤ length c.args.table.now) = let e = c.count_at-fields.ensures.0 in
-    (omega (arith, c.loop-field-test.true), omega (arith, c.loop-field-test.true, (row-at).inside)) in
-    (mask_lt c.loop-field.field c.loop-field.mask c.loop-field.invariant.2 (omega (arith, (in_row).0, (row-at).most)), search rules)
+    let loop = c.loop-field in
+    let few : loop.field < 32 = omega (arith, c.count_at-fields.ensures.0, (record-row c.requires.0 c.requires.1 c.requires.2).most) in
+    (mask_lt loop.field loop.mask loop.invariant.2 few, search rules)
 
 pub returns-in_default : goal.returns-in_default
 returns-in_default c =
-    let row-at : RecordRow c.requires.0 c.requires.1 = record-row c.requires.0 c.requires.1 c.requires.2 in
-    let in_row : (c.loop-field.field < u16 c.args.table.now (c.args.at + 4)) × (c.args.at + 10 + 4 * c.loop-field.field ≤ length c.args.table.now) = let e = c.count_at-fields.ensures.0 in
-    (omega (arith, c.loop-field-test.true), omega (arith, c.loop-field-test.true, (row-at).inside)) in
     let a = c.args in
-    no-mark a.table.now a.at c.loop-field.field _ c.loop-field.mask (in_row).0 c.loop-field.invariant.2 c.flag_at-flag.ensures.0 c.loop-field.invariant.3
-    c.mark-begun.result _ c.in_default.keys2 c.mark-begun.ensures
+    let loop = c.loop-field in
+    no-mark a.table.now a.at loop.field _ loop.mask (omega (arith, c.count_at-fields.ensures.0)) loop.invariant.2 c.flag_at-flag.ensures.0 loop.invariant.3
+    c.mark-begun.result _ c.in_default.not-Fields c.mark-begun.ensures
 
 pub loop-field-preserved : goal.loop-field-preserved
 loop-field-preserved c =
-    let row-at : RecordRow c.requires.0 c.requires.1 = record-row c.requires.0 c.requires.1 c.requires.2 in
-    let in_row : (c.loop-field.field < u16 c.args.table.now (c.args.at + 4)) × (c.args.at + 10 + 4 * c.loop-field.field ≤ length c.args.table.now) = let e = c.count_at-fields.ensures.0 in
-    (omega (arith, c.loop-field-test.true), omega (arith, c.loop-field-test.true, (row-at).inside)) in
     let a = c.args in
+    let loop = c.loop-field in
     let m = rw c.in-Fields.is at c.mark-begun.ensures in (
-      omega (arith, c.loop-field-test.true),
+      omega arith,
       search rules,
-      marked_lt c.loop-field.field c.loop-field.mask _ c.loop-field.invariant.2 m.0,
-      marked_on a.table.now a.at c.loop-field.field _ c.loop-field.mask (in_row).0 c.loop-field.invariant.2 c.flag_at-flag.ensures.0 c.loop-field.invariant.3 _ _ _ m,
+      marked_lt loop.field loop.mask _ loop.invariant.2 m.0,
+      marked_on a.table.now a.at loop.field _ loop.mask (omega (arith, c.count_at-fields.ensures.0)) loop.invariant.2 c.flag_at-flag.ensures.0 loop.invariant.3 _ _ _ m,
     )
 
 pub returns : goal.returns
 returns c =
-    let e : c.loop-field.field ≡ u16 c.args.table.now (c.args.at + 4) = omega (arith, c.count_at-fields.ensures.0) in (
+    let loop = c.loop-field in
+    let t = c.args.table.now in
+    let e : loop.field ≡ u16 t (c.args.at + 4) = omega (arith, c.count_at-fields.ensures.0) in (
       c.requires.2,
-      subst (λ (n : ℕ). c.loop-field.mask < 2 ^ n) e c.loop-field.invariant.2,
-      continues-trans c.loop-field.invariant.3 (continues_same (record_end (items c.args.table.now) c.args.table.now c.args.at c.loop-field.field c.loop-field.mask e)),
+      subst (λ (n : ℕ). loop.mask < 2 ^ n) e loop.invariant.2,
+      continues-trans loop.invariant.3 (continues_same (record_end (items t) t c.args.at loop.field loop.mask e)),
     )

@@ -4,16 +4,12 @@ use Prim.Native.Nat.{ℕ, ◌+◌}
 use mathlib.Core.Path.{◌≡◌, ap}
 use native.Mathlib.Omega.{arith}
 use borrow.Author.Rules.{rules}
-use lib.ListN.{get_or}
 use mir.Syntax.{w64}
 use mir.Val.{to_z, of_z}
-use Rattle.octets.specs.Numbers.{u16, u16s}
+use Rattle.octets.specs.Numbers.{u16}
 use Rattle.item.specs.Code.{index, natural}
 use Rattle.item.specs.Answers.{branches_at}
-use Rattle.row.specs.Offsets.{earlier}
 use Rattle.table.proofs.Obeyed.{choice-row}
-use Rattle.items.specs.Items.{stop, ask}
-use Rattle.encoding.specs.Rows.{items}
 use Rattle.encoding.proofs.RowItems.{items-choice}
 use Rattle.item.proofs.Naturals.{held}
 use Rattle.parts.proofs.Choices.{Chosen, chosen}
@@ -22,18 +18,14 @@ use Rattle.write_steps.proofs.Flow.{continues-trans, continues_same}
 use Rattle.write_steps.proofs.Putting.{Putting, putting, put-allowed, first_missing, first_refused, first_put}
 use Rattle.write_begin.proofs.choose.Goals as goal
 
--- what the row asks for
-
 pub returns-in_default : goal.returns-in_default
 returns-in_default c =
-    let row-items : let t = c.args.table.now in let at = c.args.at in
-    items t at ≡ ask (index (branches_at t (at + 6) (u16 t (at + 4)))) (λ v. earlier stop at (items t) (get_or (u16s t (at + 6) 2 (u16 t (at + 4))) (natural v) 65535)) = items-choice c.args.table.now c.args.at _ (choice-row c.requires.0 c.requires.1 c.requires.2).is in
-    first_missing _ _ (row-items)
+    let pre = c.requires in
+    first_missing _ _ (items-choice c.args.table.now c.args.at _ (choice-row pre.0 pre.1 pre.2).is)
     c.next_value-given.result c.missing.result c.next_value-given.ensures c.in_default.is c.missing.ensures
 
 pub count_at-branches-requires : goal.count_at-branches-requires
-count_at-branches-requires c =
-    omega (arith, (choice-row c.requires.0 c.requires.1 c.requires.2).inside)
+count_at-branches-requires c = omega (arith, (choice-row c.requires.0 c.requires.1 c.requires.2).inside)
 
 pub index-put-requires : goal.index-put-requires
 index-put-requires c =
@@ -41,51 +33,34 @@ index-put-requires c =
     let e = c.count_at-branches.ensures.0 in
     search rules
 
--- the index as the code holds it
-
--- the index, put
-
--- the branch that it chooses
-
 pub branch_at-requires : goal.branch_at-requires
 branch_at-requires c =
-    let value-held : to_z w64 (of_z w64 c.in-Value.value) ≡ c.in-Value.value = held c.in-Value.value c.known_told-1.given-1.0.1 in
-    let value-put : let a = c.args in
-    Putting (index (branches_at a.table.now (a.at + 6) (u16 a.table.now (a.at + 4)))) (list_in a.values.now a.packed.now) (state_at a.cursor a.output.now)
-    c.index-put.new.output c.in-Value.value c.moved-step.result = let a = c.args in
-    putting _ c.next_value-given.result c.index-put.result _ _ (ap (λ (m : ℕ). index (branches_at a.table.now (a.at + 6) m)) c.count_at-branches.ensures.0)
-    c.next_value-given.ensures c.in-Value.is (value-held) c.index-put.ensures c.moved-step.ensures in
-    let branch : Chosen c.args.table.now c.args.at c.count_of.result = let v = c.in-Value.value in
-    rw (rw (value-held) at c.count_of.ensures)
-    (chosen c.requires.0 c.requires.1 c.requires.2 v (put-allowed (value-put) c.in-Past.is)) in
-    omega (arith, (branch).inside)
+    let a = c.args in
+    let pre = c.requires in
+    let held-value : to_z w64 (of_z w64 c.in-Value.value) ≡ c.in-Value.value = held c.in-Value.value (search rules) in
+    let put : Putting (index (branches_at a.table.now (a.at + 6) (u16 a.table.now (a.at + 4)))) (list_in a.values.now a.packed.now) (state_at a.cursor a.output.now) c.index-put.new.output c.in-Value.value c.moved-step.result =
+        putting _ c.next_value-given.result c.index-put.result _ _ (ap (λ (m : ℕ). index (branches_at a.table.now (a.at + 6) m)) c.count_at-branches.ensures.0) c.next_value-given.ensures c.in-Value.is
+        held-value c.index-put.ensures c.moved-step.ensures in
+    let count = rw held-value at c.count_of.ensures in
+    omega (arith, count, (chosen pre.0 pre.1 pre.2 c.in-Value.value (put-allowed put c.in-Past.is)).inside)
 
 pub returns-in-Past : goal.returns-in-Past
 returns-in-Past c =
-    let row-items : let t = c.args.table.now in let at = c.args.at in
-    items t at ≡ ask (index (branches_at t (at + 6) (u16 t (at + 4)))) (λ v. earlier stop at (items t) (get_or (u16s t (at + 6) 2 (u16 t (at + 4))) (natural v) 65535)) = items-choice c.args.table.now c.args.at _ (choice-row c.requires.0 c.requires.1 c.requires.2).is in
-    let value-held : to_z w64 (of_z w64 c.in-Value.value) ≡ c.in-Value.value = held c.in-Value.value c.known_told-1.given-1.0.1 in
-    let value-put : let a = c.args in
-    Putting (index (branches_at a.table.now (a.at + 6) (u16 a.table.now (a.at + 4)))) (list_in a.values.now a.packed.now) (state_at a.cursor a.output.now)
-    c.index-put.new.output c.in-Value.value c.moved-step.result = let a = c.args in
-    putting _ c.next_value-given.result c.index-put.result _ _ (ap (λ (m : ℕ). index (branches_at a.table.now (a.at + 6) m)) c.count_at-branches.ensures.0)
-    c.next_value-given.ensures c.in-Value.is (value-held) c.index-put.ensures c.moved-step.ensures in
-    let branch : Chosen c.args.table.now c.args.at c.count_of.result = let v = c.in-Value.value in
-    rw (rw (value-held) at c.count_of.ensures)
-    (chosen c.requires.0 c.requires.1 c.requires.2 v (put-allowed (value-put) c.in-Past.is)) in
-    let chosen = branch in
-    let same : c.count_of.result ≡ natural c.in-Value.value = rw (value-held) at c.count_of.ensures in
-    rw c.branch_at.ensures.0
-    (chosen.back, continues-trans (first_put _ _ (row-items) (value-put) c.in-Past.is) (continues_same (rw (← same) chosen.same)))
+    let a = c.args in
+    let pre = c.requires in
+    let held-value : to_z w64 (of_z w64 c.in-Value.value) ≡ c.in-Value.value = held c.in-Value.value (search rules) in
+    let put : Putting (index (branches_at a.table.now (a.at + 6) (u16 a.table.now (a.at + 4)))) (list_in a.values.now a.packed.now) (state_at a.cursor a.output.now) c.index-put.new.output c.in-Value.value c.moved-step.result =
+        putting _ c.next_value-given.result c.index-put.result _ _ (ap (λ (m : ℕ). index (branches_at a.table.now (a.at + 6) m)) c.count_at-branches.ensures.0) c.next_value-given.ensures c.in-Value.is
+        held-value c.index-put.ensures c.moved-step.ensures in
+    let branch : Chosen a.table.now a.at (natural c.in-Value.value) = chosen pre.0 pre.1 pre.2 c.in-Value.value (put-allowed put c.in-Past.is) in
+    rw (c.branch_at.ensures.0, rw held-value at c.count_of.ensures)
+    (branch.back, continues-trans (first_put _ _ (items-choice a.table.now a.at _ (choice-row pre.0 pre.1 pre.2).is) put c.in-Past.is) (continues_same branch.same))
 
 pub returns-in-Refused : goal.returns-in-Refused
 returns-in-Refused c =
-    let row-items : let t = c.args.table.now in let at = c.args.at in
-    items t at ≡ ask (index (branches_at t (at + 6) (u16 t (at + 4)))) (λ v. earlier stop at (items t) (get_or (u16s t (at + 6) 2 (u16 t (at + 4))) (natural v) 65535)) = items-choice c.args.table.now c.args.at _ (choice-row c.requires.0 c.requires.1 c.requires.2).is in
-    let value-held : to_z w64 (of_z w64 c.in-Value.value) ≡ c.in-Value.value = held c.in-Value.value c.known_told-1.given-1.0.1 in
-    let value-put : let a = c.args in
-    Putting (index (branches_at a.table.now (a.at + 6) (u16 a.table.now (a.at + 4)))) (list_in a.values.now a.packed.now) (state_at a.cursor a.output.now)
-    c.index-put.new.output c.in-Value.value c.moved-step.result = let a = c.args in
-    putting _ c.next_value-given.result c.index-put.result _ _ (ap (λ (m : ℕ). index (branches_at a.table.now (a.at + 6) m)) c.count_at-branches.ensures.0)
-    c.next_value-given.ensures c.in-Value.is (value-held) c.index-put.ensures c.moved-step.ensures in
-    first_refused _ _ (row-items) (value-put) c.in-Refused.is
+    let a = c.args in
+    let pre = c.requires in
+    first_refused _ _ (items-choice a.table.now a.at _ (choice-row pre.0 pre.1 pre.2).is)
+    (putting _ c.next_value-given.result c.index-put.result _ _ (ap (λ (m : ℕ). index (branches_at a.table.now (a.at + 6) m)) c.count_at-branches.ensures.0) c.next_value-given.ensures c.in-Value.is
+    (held c.in-Value.value (search rules)) c.index-put.ensures c.moved-step.ensures)
+    c.in-Refused.is

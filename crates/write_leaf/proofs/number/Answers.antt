@@ -20,16 +20,9 @@ returns-in_default c =
     first_missing (number (signed (u32 a.table.now (a.at + 4))) (u32 a.table.now (a.at + 8))) (λ v. stop) refl
     c.next_value-given.result c.missing.result c.next_value-given.ensures c.in_default.is c.missing.ensures
 
--- the row's low, as the code holds it
-
-pub number-put-requires : goal.number-put-requires
-number-put-requires c =
-    let low_held : to_z w64 (of_z w64 c.low_at-low.result) ≡ c.low_at-low.result = held c.low_at-low.result (omega (arith, c.low_at-low.ensures.1)) in
-    (search rules, rw (low_held) c.low_at-low.ensures.1)
-
 pub returns : goal.returns
 returns c =
     let low_held : to_z w64 (of_z w64 c.low_at-low.result) ≡ c.low_at-low.result = held c.low_at-low.result (omega (arith, c.low_at-low.ensures.1)) in
     let code = ap₂ number (low_held ∙ c.low_at-low.ensures.0) c.span_at-span.ensures.0 in
     writes_one c.moved.result
-    (putting _ c.next_value-given.result c.number-put.result _ _ code c.next_value-given.ensures c.in-Value.is (held c.in-Value.value c.known_told-1.given-1.0.1) c.number-put.ensures c.moved.ensures)
+    (putting _ c.next_value-given.result c.number-put.result _ _ code c.next_value-given.ensures c.in-Value.is (held c.in-Value.value (search rules)) c.number-put.ensures c.moved.ensures)

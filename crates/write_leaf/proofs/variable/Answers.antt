@@ -1,6 +1,7 @@
 -- `write_leaf::variable` meets its contract. One value, put by its code.
 -- Assumes nothing.
 use mathlib.Core.Path.{refl}
+use borrow.Author.Rules.{rules}
 use Rattle.item.specs.Code.{variable}
 use Rattle.items.specs.Items.{stop, one}
 use Rattle.item.proofs.Naturals.{held}
@@ -16,4 +17,4 @@ returns-in_default c =
 pub returns : goal.returns
 returns c =
     writes_one c.moved.result
-    (putting variable c.next_value-given.result c.variable-put.result _ _ refl c.next_value-given.ensures c.in-Value.is (held c.in-Value.value c.known_told-1.given-1.0.1) c.variable-put.ensures c.moved.ensures)
+    (putting variable c.next_value-given.result c.variable-put.result _ _ refl c.next_value-given.ensures c.in-Value.is (held c.in-Value.value (search rules)) c.variable-put.ensures c.moved.ensures)

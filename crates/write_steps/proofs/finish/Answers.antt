@@ -4,21 +4,11 @@ use Prim.Native.Nat.{◌+◌, ◌-◌, ◌*◌}
 use mathlib.Core.Path.{◌≡◌, ap, ◌∙◌}
 use native.Mathlib.Omega.{arith}
 use lib.ListN.{length}
-use borrow.Author.Tests.{lt-ltb, le-ltb, eq-eqb, ne_eqb}
+use borrow.Author.Tests.{le-ltb, ne_eqb}
 use Rattle.answer.specs.Numbers.{accepted}
 use Rattle.items.specs.Encoding.{size}
 use Rattle.write_steps.proofs.Ends.{none_below}
 use Rattle.write_steps.proofs.finish.Goals as goal
-
-pub returns-then-index-count : goal.returns-then-index-count
-returns-then-index-count c =
-    let a = c.args in
-    (c.refused.ensures ∙ rw (lt-ltb a.end.index a.count c.if-index-count.true), λ h s. absurd (omega (arith, c.if-index-count.true)))
-
-pub returns-then-output-eq0 : goal.returns-then-output-eq0
-returns-then-output-eq0 c =
-    let a = c.args in
-    (c.refused-then-output-eq0.ensures ∙ rw (le-ltb a.end.index a.count c.if-index-count.false, eq-eqb (length a.output.now) 0 c.if-output-eq0.true), λ h s. absurd (omega (arith, c.if-output-eq0.true)))
 
 pub replace_in_octet-requires : goal.replace_in_octet-requires
 replace_in_octet-requires c =
@@ -27,11 +17,11 @@ replace_in_octet-requires c =
 pub returns : goal.returns
 returns c =
     let a = c.args in
-    let p = a.end.place-1.0 in
+    let p = a.end.place.0 in
     let n = c.holding-size.result.0 in
     let z : n ≡ size p = c.holding-size.ensures in
     let k : c.after-all.result.0 - p ≡ 8 * size p - p = omega (arith, c.after-all.ensures, z) in
     let q : 8 * (n - 1) + (8 - 0 - (c.after-all.result.0 - p)) ≡ p = omega (arith, c.after-all.ensures, z) in (
       c.accepted.ensures ∙ ap (accepted 0 0) z ∙ rw (le-ltb a.end.index a.count c.if-index-count.false, ne_eqb (length a.output.now) 0 c.if-output-eq0.false),
-      λ h c. rw (q, k) at c.replace_in_octet.ensures,
+      λ h s. rw (q, k) at c.replace_in_octet.ensures,
     )

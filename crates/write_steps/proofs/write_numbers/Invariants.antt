@@ -3,15 +3,13 @@
 use Prim.Native.Nat.{◌-◌, ◌≤◌}
 use mathlib.Core.Path.{◌≡◌}
 use lib.ListN.{length}
-use mir.Syntax.{w64}
-use mir.Val.{to_z}
 use Rattle.item.specs.Code.{number}
 use Rattle.items.specs.Items.{one, times}
 use Rattle.write_steps.specs.Writes.{list_in, state_at, Continues}
 use Rattle.write_steps.proofs.write_numbers.Given as goal
 
 abbrev pub invariant-loop-done : goal.invariant-loop-done
-invariant-loop-done l = let code = number (to_z w64 l.low) l.span in
+invariant-loop-done l = let code = number l.low l.span in
     (l.done ≤ l.count) × (length l.output ≡ length l.initial.output)
     × Continues (list_in l.values l.packed) (times l.count (one code)) (state_at l.initial.here l.initial.output) (times (l.count - l.done) (one code)) (state_at l.here l.output)
 

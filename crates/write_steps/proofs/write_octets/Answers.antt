@@ -1,29 +1,16 @@
 -- `write_steps::write_octets` meets its contract. Writing the run comes to writing what is left of it after the octets that
 -- were put (`continues-octets`).
 -- Assumes nothing.
-use Prim.Native.Nat.{ℕ, ◌+◌, ◌-◌, ◌/◌, ◌≤◌}
-use mathlib.Core.Path.{◌≡◌, ap, ◌∙◌}
+use Prim.Native.Nat.{◌+◌, ◌-◌}
 use native.Mathlib.Omega.{arith}
 use lib.IntN.{pos}
-use lib.ListN.{length, length-append}
 use Rattle.item.specs.Code.{number}
 use Rattle.items.specs.Items.{one}
 use Rattle.items.proofs.Runs.{times_none}
-use Rattle.values.specs.Values.{values_in}
-use Rattle.values.proofs.Stores.{length-values_in}
 use Rattle.write_steps.specs.Writes.{cursor_at, list_in, state_at, Continues}
 use Rattle.write_steps.proofs.Flow.{continues-trans, continues_same, continues_end}
 use Rattle.write_steps.proofs.Octets.{octets, continues-octets}
 use Rattle.write_steps.proofs.write_octets.Goals as goal
-
-pub overflow_add-next : goal.overflow_add-next
-overflow_add-next c =
-    let a = c.args in
-    let v = a.values.now in
-    let o = a.packed.now in
-    let long : length (list_in v o) ≡ length v + length o / 8 = length-append v (values_in o) ∙ ap (λ (k : ℕ). length v + k) (length-values_in o) in
-    let listed : c.write-done.result ≤ length v + length o / 8 - a.cursor.index = rw long at c.write-done.ensures.listed in
-    record { fits = omega (arith, listed) }
 
 -- the octets that were put
 
@@ -31,9 +18,9 @@ pub returns-then-done-count : goal.returns-then-done-count
 returns-then-done-count c =
     let run-put : let a = c.args in
     Continues (list_in a.values.now a.packed.now) (octets a.count) (state_at a.cursor a.output.now)
-    (octets (a.count - c.write-done.result)) (state_at (cursor_at c.further.result.0 (a.cursor.index + c.write-done.result)) c.write-done.new.1.1.1.1.0) = let a = c.args in
+    (octets (a.count - c.write-done.result)) (state_at (cursor_at c.further.result.0 (a.cursor.index + c.write-done.result)) c.write-done.new.output) = let a = c.args in
     rw c.further.ensures
-    (continues-octets (list_in a.values.now a.packed.now) c.write-done.result a.count (state_at a.cursor a.output.now) c.write-done.new.1.1.1.1.0 c.write-done.ensures) in
+    (continues-octets (list_in a.values.now a.packed.now) c.write-done.result a.count (state_at a.cursor a.output.now) c.write-done.new.output c.write-done.ensures) in
     let a = c.args in
     continues_end (continues-trans (run-put) (continues_same (times_none (a.count - c.write-done.result) (one (number (pos 0) 255)) (omega arith))))
 
@@ -41,7 +28,7 @@ pub returns : goal.returns
 returns c =
     let run-put : let a = c.args in
     Continues (list_in a.values.now a.packed.now) (octets a.count) (state_at a.cursor a.output.now)
-    (octets (a.count - c.write-done.result)) (state_at (cursor_at c.further.result.0 (a.cursor.index + c.write-done.result)) c.write-done.new.1.1.1.1.0) = let a = c.args in
+    (octets (a.count - c.write-done.result)) (state_at (cursor_at c.further.result.0 (a.cursor.index + c.write-done.result)) c.write-done.new.output) = let a = c.args in
     rw c.further.ensures
-    (continues-octets (list_in a.values.now a.packed.now) c.write-done.result a.count (state_at a.cursor a.output.now) c.write-done.new.1.1.1.1.0 c.write-done.ensures) in
+    (continues-octets (list_in a.values.now a.packed.now) c.write-done.result a.count (state_at a.cursor a.output.now) c.write-done.new.output c.write-done.ensures) in
     rw c.again.ensures ((run-put).complete _ _ c.write_numbers-step.ensures)

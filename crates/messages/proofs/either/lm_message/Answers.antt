@@ -8,15 +8,6 @@ use Rattle.lm_guard.proofs.Tests.{fine, unfit}
 use borrow.Author.Rules.{rules}
 use Rattle.messages.proofs.either.lm_message.Goals as goal
 
-pub lm_tested-tested-requires : goal.lm_tested-tested-requires
-lm_tested-tested-requires c = search rules
-
-pub enum_told-1 : goal.enum_told-1
-enum_told-1 c = search rules
-
-pub enum_told-in_default : goal.enum_told-in_default
-enum_told-in_default c = search rules
-
 pub returns-in_default : goal.returns-in_default
 returns-in_default c =
     let a = c.args in
@@ -33,12 +24,6 @@ read_message-requires c =
     let a = c.args in
     let f = fine a.message.now a.room _ (sym c.lm_tested-tested.ensures ∙ c.in-Accepted.is) in
     (lm-obeys, sym lm-root, f.some, f.most)
-
-pub shape_of-values : goal.shape_of-values
-shape_of-values c = search rules
-
-pub shape_of-packed : goal.shape_of-packed
-shape_of-packed c = search rules
 
 pub returns : goal.returns
 unfolding lm
