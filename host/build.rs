@@ -1,4 +1,4 @@
-//! Links the static libraries that `rt staticlib` builds from the Rattle crates. They are looked for
+//! Links the static libraries that `./build` builds from the Rattle crates. They are looked for
 //! in ../target/staticlib, or in the folder that the variable TEYOLXAN_ARCHIVES names. Where the one
 //! with the calls under tables is among them, the package has the configuration `tables`. With the
 //! feature `asn1c` the benchmark also links the library that `host/bench` builds in target/asn1c.
@@ -69,7 +69,7 @@ pub fn instructions(folder: &Path, names: &[&str]) -> Vec<String> {
         let files: Vec<String> = missing.iter().map(|name| file(name)).collect();
         let commands: Vec<String> = missing
             .iter()
-            .map(|name| format!("rt staticlib {name}"))
+            .map(|name| format!("./build {name}"))
             .collect();
         return vec![format!(
             "cargo::error=no {} in {}: run `{}` in the repository's root",

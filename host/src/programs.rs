@@ -1,4 +1,4 @@
-//! The programs that `rt check` built in target/bin, and what they print.
+//! The programs that `./build` built in target/bin, and what they print.
 
 use std::fs;
 use std::io::{self, Write};
@@ -28,7 +28,7 @@ pub fn printed_while(
     let program = root().join("target/bin").join(name);
     assert!(
         program.is_file(),
-        "no target/bin/{name}: run `rt check {name}` in the repository's root"
+        "no target/bin/{name}: run `./build {name}` in the repository's root"
     );
     let mut child = Command::new(program)
         .stdin(Stdio::piped())

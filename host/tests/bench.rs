@@ -1,4 +1,4 @@
-//! The bench program, as `rt check bench` built it, on the case files and on the examples beside it.
+//! The bench program, as `./build bench` built it, on the case files and on the examples beside it.
 
 use teyolxan_host::codec::{Call, Codec};
 use teyolxan_host::programs::{pairs, printed};

@@ -15,13 +15,13 @@ fn a_missing_library_is_one_error_that_names_the_command() {
     assert_eq!(
         script::instructions(&folder, &["teyolxan"]),
         [format!(
-            "cargo::error=no libteyolxan.a in {shown}: run `rt staticlib teyolxan` in the repository's root"
+            "cargo::error=no libteyolxan.a in {shown}: run `./build teyolxan` in the repository's root"
         )]
     );
     assert_eq!(
         script::instructions(&folder, &["teyolxan", "probe"]),
         [format!(
-            "cargo::error=no libteyolxan.a, no libprobe.a in {shown}: run `rt staticlib teyolxan && rt staticlib probe` in the repository's root"
+            "cargo::error=no libteyolxan.a, no libprobe.a in {shown}: run `./build teyolxan && ./build probe` in the repository's root"
         )]
     );
 }

@@ -1,4 +1,4 @@
-//! The capture program, as `rt check capture` built it: on the case files, on the files of host/captures, and
+//! The capture program, as `./build capture` built it: on the case files, on the files of host/captures, and
 //! against the independent text on small files, drawn ones and a long one.
 
 use std::fs;

@@ -237,7 +237,7 @@ impl Function {
 
     /// Whether an equation of its contract says what a parameter, or a field of it, then is.
     fn settles(&self, parameter: &str) -> bool {
-        let exit = format!("({parameter} .exit)");
+        let exit = format!("{parameter}.new");
         let is_equation = |after: &str| {
             let mut words = after.split_whitespace();
             words.find(|word| !word.starts_with('.')) == Some("≡")
@@ -251,7 +251,12 @@ impl Function {
 
     /// Whether an equation of its contract says what it gives back, or what a field of that is.
     fn answers(&self) -> bool {
-        let starts = ["(r ≡ ", "⌜ r ≡ ", "(now r ≡ ", "(now (r ."];
+        let starts = [
+            "(result ≡ ",
+            "{ result ≡ ",
+            "(result.now ≡ ",
+            "(result.message.now ≡ ",
+        ];
         let ensures = self.clauses("ensures ");
         let mut clauses = ensures.iter();
         clauses.any(|clause| starts.iter().any(|start| clause.contains(start)))
@@ -347,7 +352,7 @@ fn every_crate_is_in_one_class() {
     let lines = text.lines().filter(|line| !line.starts_with('#'));
     let mut crates: Vec<_> = lines
         .filter_map(|line| line.split_once(':'))
-        .map(|(name, _)| name.to_string())
+        .filter_map(|(name, _)| name.split(' ').next().map(str::to_string))
         .collect();
     let without = table("| Crates without calls |");
     let [parts, definitions, programs] = &without[..] else {

@@ -1,6 +1,6 @@
 -- Laws of what octets begin with: a whole frame has its header and lies within them, and what follows changes neither it nor a bad one.
 -- So the bench program is steady.
-use Prim.Native.Nat.{ℕ, ◌+◌, ◌≤◌, ◌<◌}
+use Prim.Native.Nat.{ℕ, ◌≤◌, ◌<◌}
 use mathlib.Core.Path.{◌≡◌, refl, ◌∙◌}
 use mathlib.Core.Bool.{Bool, true, false, cond}
 use mathlib.Core.List.{List, ◌++◌}

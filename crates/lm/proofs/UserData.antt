@@ -17,7 +17,7 @@ use Rattle.builtin.specs.Tables.{lm}
 use Rattle.items.specs.Encoding.{size, padding, padded}
 use Rattle.lm.specs.Clause5.{in_order, length_bits, address_bits, Element, element_bits, Extensions, absent, present, extensions_bits, OriginalHeader, original_null, original_nhop, original_header_bits, NHeader, null_networking, internal_forwarding, n_hop_forwarding, n_header_bits, THeader, dissemination, session, t_header_bits, NullNetworking, null_networking_bits, NHopForwarding, n_hop_forwarding_bits, Octets, Lm, layout_bits}
 use Rattle.lm.proofs.Spelling.{Spells}
-use Rattle.lm.proofs.Rows.{network, transport}
+use Rattle.lm.proofs.Rows.{transport}
 use Rattle.lm.specs.UserData.{bits_before, user_data_start, UserDataPlace}
 
 -- ── parts of whole octets ──

@@ -12,7 +12,6 @@ use Rattle.window.proofs.InWindow.{number_in_window}
 use Rattle.bitwise.proofs.bit_at.Goals as goal
 
 -- a bit is one of its octet's
-
 bit-in-octet : (m : List ℕ) → ((i : ℕ) → get_or m i 0 < 256) → (p : ℕ) → p < 8 * length m
     → number_of (take 1 (drop p (unpack m))) ≡ get_or m (p / 8) 0 / 2 ^ (7 - p % 8) % 2
 bit-in-octet m octets p inside =
@@ -30,9 +29,5 @@ bit-in-octet m octets p inside =
 
 pub returns : goal.returns
 returns c =
-    let a = c.args in
-    let m = a.message.now in
-    let octets : (i : ℕ) → get_or m i 0 < 256 = λ i. omega (arith, c.shared_slice_known-1.given i) in (
-      rw c.octet_inside.ensures.0 (sym (bit-in-octet m octets a.at (omega arith))),
-      mod-lt _ (omega arith),
-    )
+    let octets : (i : ℕ) → get_or c.args.message.now i 0 < 256 = λ i. (c.type_inv.message i).fits in
+    (rw c.octet_inside.ensures.0 (sym (bit-in-octet c.args.message.now octets c.args.at (omega arith))), mod-lt _ (omega arith))

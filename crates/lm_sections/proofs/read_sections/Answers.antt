@@ -1,11 +1,8 @@
 use mathlib.Core.Path.{◌≡◌, refl, ap}
 use native.Mathlib.Omega.{arith}
 use borrow.Author.Rules.{rules}
-use Rattle.read_steps.specs.Reads.{state_at}
 use Rattle.read_steps.proofs.Flow.{continues-trans, continues_same, continues_end}
 use Rattle.lm_items.specs.Asked.{rank, asked}
-use Rattle.lm_sections.specs.Passes.{Passes}
-use Rattle.lm_sections.specs.declared.Passed.TheVariants.{Next}
 use Rattle.lm_sections.proofs.Sections.{no_more}
 use Rattle.lm_sections.proofs.read_sections.Goals as goal
 

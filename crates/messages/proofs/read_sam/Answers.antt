@@ -1,16 +1,9 @@
 -- `messages::read_sam` meets its contract. The table of SAM passes.
 -- Assumes nothing.
-use Prim.Native.Nat.{◌-◌}
 use mathlib.Core.Path.{sym}
 use Rattle.builtin.specs.Tables.{sam}
 use Rattle.builtin.proofs.Tables.{sam-obeys, sam-root}
-use borrow.Author.Rules.{rules}
 use Rattle.messages.proofs.read_sam.Goals as goal
-
--- UNRESOLVED slice-aggregate-read-known
-slice-aggregate-read-known : tie.Need-slice-aggregate-read-known
-slice-aggregate-read-known c = search rules
-
 
 pub read_known-requires : goal.read_known-requires
 unfolding sam
@@ -18,4 +11,4 @@ read_known-requires c = (sam-obeys, sym sam-root)
 
 pub returns : goal.returns
 unfolding sam
-returns c = c.read_Known.ensures
+returns c = c.read_known.ensures

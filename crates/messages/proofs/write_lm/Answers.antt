@@ -1,6 +1,6 @@
 -- `messages::write_lm` meets its contract. What the tests refused; or the table's outcome.
 -- Assumes nothing.
-use Prim.Native.Nat.{ℕ, ◌-◌}
+use Prim.Native.Nat.{ℕ}
 use mathlib.Core.Path.{sym, ap, ◌∙◌}
 use lib.ListN.{length}
 use Rattle.builtin.specs.Tables.{lm}
@@ -11,7 +11,6 @@ use Rattle.items.specs.Slices.{filled, output_after}
 use Rattle.items.specs.Writing.{write_answer}
 use Rattle.writing.proofs.Passed.{write-passed}
 use Rattle.lm_guard.proofs.ListTests.{list-passed, list-refused}
-use borrow.Author.Rules.{rules}
 use Rattle.messages.proofs.write_lm.Goals as goal
 
 pub returns-in_default : goal.returns-in_default
@@ -21,14 +20,6 @@ returns-in_default c =
     let told = c.in_default.is in
     let b = list-refused a.values.now n _ (sym c.lm_list_tested-tested.ensures ∙ told) in
     (told ∙ b.0, c.clear_octets.ensures ∙ ap (λ (s : List ℕ). filled 0 n s) (sym b.1))
-
-pub slice_bounds-write_known-end-2 : goal.slice_bounds-write_known-end-2
-slice_bounds-write_known-end-2 c = search rules
-
--- UNRESOLVED slice-aggregate-write-known-2
-slice-aggregate-write-known-2 : tie.Need-slice-aggregate-write-known-2
-slice-aggregate-write-known-2 c = search rules
-
 
 pub write_known-requires : goal.write_known-requires
 unfolding lm

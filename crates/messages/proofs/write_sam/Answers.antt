@@ -1,21 +1,11 @@
 -- `messages::write_sam` meets its contract. The table of SAM passes.
 -- Assumes nothing.
-use Prim.Native.Nat.{◌-◌}
 use mathlib.Core.Path.{sym}
 use Rattle.builtin.specs.Tables.{sam}
 use Rattle.builtin.proofs.Tables.{sam-obeys, sam-root}
 use mathlib.Core.List.{append-nil}
 use Rattle.values.specs.Values.{values_in, values_from}
-use borrow.Author.Rules.{rules}
 use Rattle.messages.proofs.write_sam.Goals as goal
-
-pub slice_bounds-write_known-end-2 : goal.slice_bounds-write_known-end-2
-slice_bounds-write_known-end-2 c = search rules
-
--- UNRESOLVED slice-aggregate-write-known-2
-slice-aggregate-write-known-2 : tie.Need-slice-aggregate-write-known-2
-slice-aggregate-write-known-2 c = search rules
-
 
 pub write_known-requires : goal.write_known-requires
 unfolding sam

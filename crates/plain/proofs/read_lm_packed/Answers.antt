@@ -1,21 +1,15 @@
 -- `plain::read_lm_packed` meets its contract. The outcome kept, and zeros after it.
 -- Assumes nothing.
-use Prim.Native.Nat.{ℕ, ◌*◌, ◌/◌, ◌≤◌}
-use mathlib.Core.Path.{◌≡◌, ap, ◌∙◌}
+use Prim.Native.Nat.{◌*◌, ◌/◌, ◌≤◌}
+use mathlib.Core.Path.{◌∙◌}
 use native.Mathlib.Omega.{arith}
 use lib.ListN.{length}
-use mathlib.Core.List.{List}
-use Rattle.answer.specs.declared.Answer.{Answer}
-use Rattle.items.specs.Reading.{read_answer, read_values}
-use Rattle.read_steps.specs.Ends.{kept_count}
-use Rattle.read_steps.proofs.Settled.{count-is, settled-packed}
+use Rattle.items.specs.Reading.{read_values}
+use Rattle.read_steps.proofs.Settled.{settled-packed}
 use Rattle.lm.specs.ByName.{read_lm_outcome}
 use Rattle.lm_guard.proofs.Tests.{lm_fits}
+use Rattle.plain.proofs.Kept.{kept-is}
 use Rattle.plain.proofs.read_lm_packed.Goals as goal
-
--- the values kept are those of the outcome
-kept-is : (m : List ℕ) (room : ℕ) (answer : Answer) (kept : ℕ) → kept ≡ kept_count answer → answer ≡ read_answer (read_lm_outcome m room) → kept ≡ length (read_values (read_lm_outcome m room))
-kept-is m room answer kept k e = k ∙ ap kept_count e ∙ count-is (read_lm_outcome m room)
 
 pub overflow_mul-kept : goal.overflow_mul-kept
 overflow_mul-kept c =
@@ -39,10 +33,9 @@ returns c =
     let a = c.args in
     let n = length a.values.now / 8 in
     let o = read_lm_outcome a.message.now n in
-    let fits : 8 * length (read_values o) ≤ length a.values.now = omega (arith, lm_fits a.message.now n) in
-    (
+    let fits : 8 * length (read_values o) ≤ length a.values.now = omega (arith, lm_fits a.message.now n) in (
       c.lm_message-answer.ensures.0,
       c.clear_octets.ensures
-      ∙ rw (kept-is a.message.now n _ _ c.kept_count-kept.ensures c.lm_message-answer.ensures.0)
-      (settled-packed o a.values.now _ fits c.lm_message-answer.auto.packed c.lm_message-answer.ensures.2),
+          ∙ rw (kept-is a.message.now n _ _ c.kept_count-kept.ensures c.lm_message-answer.ensures.0)
+          (settled-packed o a.values.now _ fits c.lm_message-answer.auto.packed c.lm_message-answer.ensures.2),
     )

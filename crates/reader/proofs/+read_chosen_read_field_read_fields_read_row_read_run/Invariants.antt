@@ -31,7 +31,7 @@ abbrev pub invariant-read_fields-loop-field : goal.invariant-read_fields-loop-fi
 invariant-read_fields-loop-field l =
     (l.field ≤ l.fields) × (length l.values ≡ length l.initial.values) × (length l.packed ≡ length l.initial.packed)
     × Continues l.message l.room (marked_fields (asks_from l.table l.at) l.table l.at l.mask) (state_at l.initial.here l.initial.values l.initial.packed)
-      (fields_from (asks_from l.table l.at) l.table l.at l.mask l.field) (state_at l.here l.values l.packed)
+    (fields_from (asks_from l.table l.at) l.table l.at l.mask l.field) (state_at l.here l.values l.packed)
 
 abbrev pub decreases-read_fields-loop-field : goal.decreases-read_fields-loop-field
 decreases-read_fields-loop-field l = l.fields - l.field
@@ -40,7 +40,7 @@ abbrev pub invariant-read_run-loop-done : goal.invariant-read_run-loop-done
 invariant-read_run-loop-done l =
     (l.done ≤ l.count) × (length l.values ≡ length l.initial.values) × (length l.packed ≡ length l.initial.packed)
     × Continues l.message l.room (times l.count (asks_at l.table l.row)) (state_at l.initial.here l.initial.values l.initial.packed)
-      (times (l.count - l.done) (asks_at l.table l.row)) (state_at l.here l.values l.packed)
+    (times (l.count - l.done) (asks_at l.table l.row)) (state_at l.here l.values l.packed)
 
 abbrev pub decreases-read_run-loop-done : goal.decreases-read_run-loop-done
 decreases-read_run-loop-done l = l.count - l.done

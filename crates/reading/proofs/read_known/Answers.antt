@@ -1,6 +1,5 @@
 -- `reading::read_known` meets its contract. The outcome kept, and zeros after it.
 -- Assumes nothing.
-use Prim.Native.Nat.{◌-◌}
 use mathlib.Core.Path.{◌≡◌, ap, ◌∙◌}
 use native.Mathlib.Omega.{arith}
 use lib.ListN.{length}
@@ -11,17 +10,7 @@ use Rattle.encoding.specs.Rows.{asks}
 use Rattle.items.proofs.Messages.{message_fits}
 use Rattle.reading.proofs.Passed.{passed-outcome}
 use Rattle.read_steps.proofs.Settled.{count-is, settled-values}
-use borrow.Author.Rules.{rules}
 use Rattle.reading.proofs.read_known.Goals as goal
-
-pub slice_bounds-read_passed-end : goal.slice_bounds-read_passed-end
-slice_bounds-read_passed-end c = search rules
-
-pub read_passed-answer-requires : goal.read_passed-answer-requires
-read_passed-answer-requires c = search rules
-
-pub kept_count-kept-requires : goal.kept_count-kept-requires
-kept_count-kept-requires c = search rules
 
 pub clear_values-requires : goal.clear_values-requires
 clear_values-requires c =
@@ -29,10 +18,7 @@ clear_values-requires c =
     let n = length a.values.now in
     let o = message_outcome a.table.now a.message.now n in
     let k : c.kept_count-kept.result ≡ length (read_values o) = c.kept_count-kept.ensures ∙ ap kept_count c.read_passed-answer.ensures.0 ∙ count-is o in
-    omega (arith, message_fits (asks a.table.now) a.message.now n, c.read_passed-answer.auto.packed)
-
-pub shape_of-values : goal.shape_of-values
-shape_of-values c = search rules
+    omega (arith, message_fits (asks a.table.now) a.message.now n, c.read_passed-answer.auto.values)
 
 pub returns : goal.returns
 returns c =
@@ -41,4 +27,4 @@ returns c =
     let o = message_outcome a.table.now a.message.now n in
     let k : c.kept_count-kept.result ≡ length (read_values o) = c.kept_count-kept.ensures ∙ ap kept_count c.read_passed-answer.ensures.0 ∙ count-is o in
     rw (passed-outcome a.table.now a.message.now n c.requires.0)
-    (c.read_passed-answer.ensures.0, c.clear_values.ensures ∙ rw k (settled-values o a.values.now _ (message_fits (asks a.table.now) a.message.now n) c.read_passed-answer.auto.packed c.read_passed-answer.ensures.1))
+    (c.read_passed-answer.ensures.0, c.clear_values.ensures ∙ rw k (settled-values o a.values.now _ (message_fits (asks a.table.now) a.message.now n) c.read_passed-answer.auto.values c.read_passed-answer.ensures.1))

@@ -1,32 +1,15 @@
 -- `reading::read_message` meets its contract. The root from place 0 on; then the close.
 -- Assumes nothing.
-use Prim.Native.Nat.{◌-◌}
 use Rattle.table.specs.Root.{root}
 use Rattle.table.proofs.LastRow.{root_is}
 use Rattle.guard.proofs.Readable.{asks-table, readable-table, tested-table}
 use Rattle.encoding.specs.Rows.{asks}
 use Rattle.read_steps.proofs.Roots.{root-refused, root-read}
-use borrow.Author.Rules.{rules}
 use Rattle.reading.proofs.read_message.Goals as goal
 
 pub read_row-step-requires : goal.read_row-step-requires
 read_row-step-requires c =
     (readable-table c.requires.0 (rw c.requires.1 (root_is c.args.table.now c.requires.0).starts), tested-table c.args.table.now c.args.at c.requires.0.most, c.requires.3)
-
-pub enum_known-step : goal.enum_known-step
-enum_known-step c = search rules
-
-pub enum_told-1 : goal.enum_told-1
-enum_told-1 c = search rules
-
-pub refused-requires : goal.refused-requires
-refused-requires c = search rules
-
-pub shape_of-values-in_default : goal.shape_of-values-in_default
-shape_of-values-in_default c = search rules
-
-pub shape_of-packed-in_default : goal.shape_of-packed-in_default
-shape_of-packed-in_default c = search rules
 
 pub returns-in_default : goal.returns-in_default
 unfolding asks
@@ -42,12 +25,6 @@ close-requires c =
     let a = c.args in
     let t = a.table.now in
     (c.requires.3, (root-read (asks t) a.message.now a.room a.values.now _ a.packed.now _ c.read_row-step.result c.requires.2 (rw (c.requires.1, asks-table t (root t) c.requires.0.most) at c.read_row-step.ensures) _ c.in-Past.is).0)
-
-pub shape_of-values : goal.shape_of-values
-shape_of-values c = search rules
-
-pub shape_of-packed : goal.shape_of-packed
-shape_of-packed c = search rules
 
 pub returns : goal.returns
 unfolding asks

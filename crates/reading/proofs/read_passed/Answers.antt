@@ -1,38 +1,21 @@
 -- `reading::read_passed` meets its contract. By the length of the message.
 -- Assumes nothing.
-use Prim.Native.Nat.{◌-◌}
 use native.Mathlib.Omega.{arith}
 use lib.ListN.{length}
 use borrow.Author.Tests.{le-leb, lt-leb}
 use Rattle.encoding.specs.Rows.{asks}
 use Rattle.items.proofs.Messages.{message-empty}
-use borrow.Author.Rules.{rules}
 use Rattle.reading.proofs.read_passed.Goals as goal
-
-pub refused-requires : goal.refused-requires
-refused-requires c = search rules
 
 pub returns-then-message-gt-MOST : goal.returns-then-message-gt-MOST
 returns-then-message-gt-MOST c =
     let a = c.args in
     rw (lt-leb (length a.message.now) 65535 c.if-message-gt-MOST.true) (c.refused.ensures, tt, tt)
 
-pub refused-requires-then-message-eq0 : goal.refused-requires-then-message-eq0
-refused-requires-then-message-eq0 c = search rules
-
 pub returns-then-message-eq0 : goal.returns-then-message-eq0
 returns-then-message-eq0 c =
     let a = c.args in
     rw (message-empty (asks a.table.now) a.message.now a.room c.if-message-eq0.true) (c.refused-then-message-eq0.ensures, tt, tt)
-
-pub read_message-requires : goal.read_message-requires
-read_message-requires c = search rules
-
-pub shape_of-values : goal.shape_of-values
-shape_of-values c = search rules
-
-pub shape_of-packed : goal.shape_of-packed
-shape_of-packed c = search rules
 
 pub returns : goal.returns
 returns c =

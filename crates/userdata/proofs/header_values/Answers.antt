@@ -12,7 +12,6 @@ use Rattle.builtin.specs.Tables.{lm}
 use Rattle.builtin.proofs.Tables.{lm-obeys}
 use Rattle.userdata.proofs.Taken.{network-starts, transport-starts}
 use Rattle.userdata.proofs.Outcome.{network-refused, transport-refused, transport_past}
-use borrow.Author.Rules.{rules}
 use Rattle.userdata.proofs.header_values.Goals as goal
 
 -- what a row of the table asks for
@@ -30,19 +29,6 @@ unfolding lm
 returns-in_default c =
     let a = c.args in
     network-refused a.message.now _ _ _ _ c.read_row-network.result (asked 204 c.read_row-network.ensures) _ c.in_default.is
-
-pub slice_bounds-read_row-end-6 : goal.slice_bounds-read_row-end-6
-slice_bounds-read_row-end-6 c = search rules
-
--- UNRESOLVED slice-aggregate-read-row-5
-slice-aggregate-read-row-5 : tie.Need-slice-aggregate-read-row-5
-slice-aggregate-read-row-5 c = search rules
-
-
--- UNRESOLVED slice-aggregate-read-row-6
-slice-aggregate-read-row-6 : tie.Need-slice-aggregate-read-row-6
-slice-aggregate-read-row-6 c = search rules
-
 
 pub read_row-transport-requires : goal.read_row-transport-requires
 unfolding lm

@@ -39,8 +39,8 @@ branch_at-requires c =
     let pre = c.requires in
     let held-value : to_z w64 (of_z w64 c.in-Value.value) ≡ c.in-Value.value = held c.in-Value.value (search rules) in
     let put : Putting (index (branches_at a.table.now (a.at + 6) (u16 a.table.now (a.at + 4)))) (list_in a.values.now a.packed.now) (state_at a.cursor a.output.now) c.index-put.new.output c.in-Value.value c.moved-step.result =
-        putting _ c.next_value-given.result c.index-put.result _ _ (ap (λ (m : ℕ). index (branches_at a.table.now (a.at + 6) m)) c.count_at-branches.ensures.0) c.next_value-given.ensures c.in-Value.is
-        held-value c.index-put.ensures c.moved-step.ensures in
+    putting _ c.next_value-given.result c.index-put.result _ _ (ap (λ (m : ℕ). index (branches_at a.table.now (a.at + 6) m)) c.count_at-branches.ensures.0) c.next_value-given.ensures c.in-Value.is
+    held-value c.index-put.ensures c.moved-step.ensures in
     let count = rw held-value at c.count_of.ensures in
     omega (arith, count, (chosen pre.0 pre.1 pre.2 c.in-Value.value (put-allowed put c.in-Past.is)).inside)
 
@@ -50,8 +50,8 @@ returns-in-Past c =
     let pre = c.requires in
     let held-value : to_z w64 (of_z w64 c.in-Value.value) ≡ c.in-Value.value = held c.in-Value.value (search rules) in
     let put : Putting (index (branches_at a.table.now (a.at + 6) (u16 a.table.now (a.at + 4)))) (list_in a.values.now a.packed.now) (state_at a.cursor a.output.now) c.index-put.new.output c.in-Value.value c.moved-step.result =
-        putting _ c.next_value-given.result c.index-put.result _ _ (ap (λ (m : ℕ). index (branches_at a.table.now (a.at + 6) m)) c.count_at-branches.ensures.0) c.next_value-given.ensures c.in-Value.is
-        held-value c.index-put.ensures c.moved-step.ensures in
+    putting _ c.next_value-given.result c.index-put.result _ _ (ap (λ (m : ℕ). index (branches_at a.table.now (a.at + 6) m)) c.count_at-branches.ensures.0) c.next_value-given.ensures c.in-Value.is
+    held-value c.index-put.ensures c.moved-step.ensures in
     let branch : Chosen a.table.now a.at (natural c.in-Value.value) = chosen pre.0 pre.1 pre.2 c.in-Value.value (put-allowed put c.in-Past.is) in
     rw (c.branch_at.ensures.0, rw held-value at c.count_of.ensures)
     (branch.back, continues-trans (first_put _ _ (items-choice a.table.now a.at _ (choice-row pre.0 pre.1 pre.2).is) put c.in-Past.is) (continues_same branch.same))

@@ -1,22 +1,15 @@
 -- `messages::either::lm_message` meets its contract. What the tests refused; or the table's outcome.
 -- Assumes nothing.
-use Prim.Native.Nat.{◌-◌}
 use mathlib.Core.Path.{sym, ◌∙◌}
 use Rattle.builtin.specs.Tables.{lm}
 use Rattle.builtin.proofs.Tables.{lm-obeys, lm-root}
 use Rattle.lm_guard.proofs.Tests.{fine, unfit}
-use borrow.Author.Rules.{rules}
 use Rattle.messages.proofs.either.lm_message.Goals as goal
 
 pub returns-in_default : goal.returns-in_default
 returns-in_default c =
     let a = c.args in
     rw (unfit a.message.now a.room _ (sym c.lm_tested-tested.ensures ∙ c.in_default.is)) (c.in_default.is, tt, tt)
-
--- UNRESOLVED slice-aggregate-read-message
-slice-aggregate-read-message : tie.Need-slice-aggregate-read-message
-slice-aggregate-read-message c = search rules
-
 
 pub read_message-requires : goal.read_message-requires
 unfolding lm

@@ -10,7 +10,7 @@ use Rattle.row.proofs.Row.low_at.Goals as goal
 
 pub returns : goal.returns
 returns c =
-    let z = c.Signed-of.result in
-    let held = to_z-of_z w64 z (record { sfits = c.Signed-of.type_inv }) in
-    let small : mag z ≤ 2147483648 = rw c.Signed-of.ensures (mag-signed c.u32_at.result c.u32_at.ensures.1) in
-    (held ∙ c.Signed-of.ensures ∙ ap signed c.u32_at.ensures.0, rw held small)
+    let z = c.signed_of.result in
+    let held = to_z-of_z w64 z (record { sfits = c.signed_of.type_inv }) in
+    let small : mag z ≤ 2147483648 = rw c.signed_of.ensures (mag-signed c.u32_at.result c.u32_at.ensures.1) in
+    (held ∙ c.signed_of.ensures ∙ ap signed c.u32_at.ensures.0, rw held small)

@@ -6,7 +6,7 @@ use Rattle.row.proofs.Row.reference_count.Goals as goal
 
 pub returns-in_default : goal.returns-in_default
 unfolding by_kind reference_count
-returns-in_default c = simp (ne_eqb _ _ c.in_default.rest.1, ne_eqb _ _ c.in_default.rest.0.1, ne_eqb _ _ c.in_default.rest.0.0.1, ne_eqb _ _ c.in_default.rest.0.0.0.1, cond_same)
+returns-in_default c = simp (ne_eqb _ _ c.in_default.in_default-own.rest.1, ne_eqb _ _ c.in_default.in_default-own.rest.0.1, ne_eqb _ _ c.in_default.in_default-own.rest.0.0.1, ne_eqb _ _ c.in_default.in_default-own.rest.0.0.0.1, cond_same)
 
 pub returns-in-3 : goal.returns-in-3
 unfolding by_kind reference_count

@@ -1,9 +1,0 @@
--- `read_steps::Step::again` meets its contract. By the step.
--- Assumes nothing.
-use Rattle.read_steps.proofs.Step.again.Goals as goal
-
-pub returns-in-Past : goal.returns-in-Past
-returns-in-Past c = rw c.in-Past.is
-
-pub returns-in-Refused : goal.returns-in-Refused
-returns-in-Refused c = rw (c.in-Refused.is, c.new.ensures)
