@@ -2,7 +2,6 @@
 // numbers, which the host's call does not reach. Apart from probe, so that neither is compiled otherwise for the other's sake.
 #![tactic(auto)]
 
-
 // Reads an LM without a table, with the values as numbers.
 #[unsafe(no_mangle)]
 pub extern "C" fn probe_read_lm_plain(message: &[u8], values: &mut [i64], numbers: &mut [u64; 6]) {

@@ -10,8 +10,6 @@ use Rattle.window.specs.Window.{placed}
 use Rattle.window.proofs.InWindow.{put_in_pair}
 use Rattle.access.proofs.replace_in_pair.Goals as goal
 
--- the first octet is one
-
 pub returns : goal.returns
 returns c =
     let a = c.args in

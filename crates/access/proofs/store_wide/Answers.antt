@@ -15,7 +15,6 @@ use Rattle.window.proofs.InWindow.{put_in_window}
 use Rattle.access.proofs.store_wide.Goals as goal
 
 -- no room: nothing is stored
-
 full : (m : List ℕ) (p k v : ℕ) → 8 * length m < p + k → (Full ≡ stored m p k) × (unpack m ≡ overwritten (unpack m) p (bits_of k v))
 full m p k v h =
     (sym (stored_past_end m p k h), sym (overwritten_past_end (unpack m) p (bits_of k v) (rw (length-unpack, length-bits_of) h)))

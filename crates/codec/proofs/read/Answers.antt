@@ -15,8 +15,5 @@ returns-in_default c =
     let b = broken-outcome a.table.now a.message.now (length a.values.now) _ _ c.check-verdict.ensures c.in_default.is in
     (b.0, c.clear_values.ensures ∙ ap (λ (vs : List ℤ). filled (pos 0) (length a.values.now) vs) (sym b.1))
 
-pub root-requires : goal.root-requires
-root-requires c = accepted-passed (verdict c.args.table.now) _ (sym c.check-verdict.ensures ∙ c.in-Accepted.is)
-
 pub read_known-requires : goal.read_known-requires
 read_known-requires c = (accepted-obeys c.args.table.now _ _ c.check-verdict.ensures c.in-Accepted.is, c.root.ensures)

@@ -30,9 +30,6 @@ returns-in_default c =
     let b = broken-outcome a.table.now a.message.now (length a.packed.now / 8) _ _ c.check-verdict.ensures c.in_default.is in
     (b.0, c.clear_octets.ensures ∙ ap (λ (vs : List ℤ). filled 0 (length a.packed.now) (list_octets vs)) (sym b.1))
 
-pub root-root-requires : goal.root-root-requires
-root-root-requires c = accepted-passed (verdict c.args.table.now) _ (sym c.check-verdict.ensures ∙ c.in-Accepted.is)
-
 pub read_passed-answer-requires : goal.read_passed-answer-requires
 read_passed-answer-requires c = (accepted-obeys c.args.table.now _ _ c.check-verdict.ensures c.in-Accepted.is, c.root-root.ensures)
 

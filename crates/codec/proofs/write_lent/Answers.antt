@@ -19,8 +19,5 @@ returns-in_default c =
     let b = write-broken a.table.now list n _ _ c.check-verdict.ensures c.in_default.is in
     (b.0, c.clear_octets.ensures ∙ ap (λ (s : List ℕ). filled 0 n s) (sym b.1))
 
-pub root-requires : goal.root-requires
-root-requires c = accepted-passed (verdict c.args.table.now) _ (sym c.check-verdict.ensures ∙ c.in-Accepted.is)
-
 pub write_known-requires : goal.write_known-requires
 write_known-requires c = (accepted-obeys c.args.table.now _ _ c.check-verdict.ensures c.in-Accepted.is, c.root.ensures)

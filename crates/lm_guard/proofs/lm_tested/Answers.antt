@@ -20,12 +20,6 @@ returns-then-number-ne3 c =
     let v = fetched-Bits m 5 3 _ _ (sym c.fetch-version.ensures ∙ c.in-Bits.is) in
     c.refused-then-number-ne3.ensures ∙ tested-version m c.if-message-gt-MOST.false (omega (arith, v.0)) _ v.1 c.if-number-ne3.true
 
-pub returns-in_default-subtype : goal.returns-in_default-subtype
-returns-in_default-subtype c =
-    let m = c.args.message.now in
-    let v = fetched-Bits m 5 3 _ _ (sym c.fetch-version.ensures ∙ c.in-Bits.is) in
-    absurd (omega (arith, v.0, fetched-Short m 0 4 (sym c.fetch-subtype.ensures ∙ c.in_default-subtype.is)))
-
 pub returns-then-branch-gt2 : goal.returns-then-branch-gt2
 returns-then-branch-gt2 c =
     let m = c.args.message.now in

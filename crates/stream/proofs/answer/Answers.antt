@@ -8,7 +8,8 @@ pub returns : goal.returns
 returns c =
     let p = c.put_last_lines.ensures in
     let first = c.args.start in
-    let finished = c.run-last.ensures.1 in record { answered = record {
+    let finished = c.run-last.ensures.1 in record {
+      answered = record {
         input = c.run-last.new.input;
         output = c.run-last.new.output;
         last = c.run-last.result.led;
@@ -17,4 +18,6 @@ returns c =
         lines = p.appended;
         gives = gives-text programs programs-steady first finished.ran p.appended;
         stops = stops-text programs programs-steady first finished.ran p.appended;
-      }; upper_bound = p.upper_bound }
+      };
+      upper_bound = p.upper_bound;
+    }

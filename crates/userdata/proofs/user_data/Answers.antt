@@ -12,14 +12,17 @@ pub returns-in_default : goal.returns-in_default
 returns-in_default c =
     rw (sym c.user_data_place-found.ensures ∙ c.in_default.is) (refl, refl, sym (add-zero c.args.message.ref_ptr.1))
 
+pub slice_bounds-result-count : goal.slice_bounds-result-count
+slice_bounds-result-count c = omega (arith, found-ends c.args.message.now c.in-At.span (sym c.in-At.ensures))
+
 pub slice_bounds-result-start : goal.slice_bounds-result-start
-slice_bounds-result-start c = omega (arith, found-ends c.args.message.now c.in-At.span (sym c.user_data_place-found.ensures ∙ c.in-At.is))
+slice_bounds-result-start c = omega (arith, found-ends c.args.message.now c.in-At.span (sym c.in-At.ensures))
 
 pub returns : goal.returns
 returns c =
     let a = c.args.message in
     let s = a.now in
     let span = c.in-At.span in
-    let e = sym c.user_data_place-found.ensures ∙ c.in-At.is in
+    let e = sym c.in-At.ensures in
     let k : length s - span.start.0 ≡ span.length.0 = omega (arith, found-ends s span e) in
     rw e (ap (λ k. take k (drop span.start.0 s)) k, refl, add_comm span.start.0 a.ref_ptr.1)
