@@ -1,3 +1,2 @@
 pub mod AtHand
 mod Moving
-pub mod Tags

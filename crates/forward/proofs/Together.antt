@@ -1,15 +1,14 @@
 -- The step in parts is the step: the tests of a message alone, then those by two searches of the list, are Forward.antt's tests in
 -- their order; and what is stored where the searches say is the list after the step.
-use Prim.Native.Nat.{ℕ, ◌≤◌, ◌<◌}
+use Prim.Native.Nat.{ℕ}
 use native.Mathlib.Nat.{le_refl}
 use mathlib.Core.Bool.{Bool, true, false, not}
 use mathlib.Core.List.{List}
-use mathlib.Core.Logic.{◌≢◌}
 use mathlib.Core.Path.{◌≡◌, refl, sym, ◌∙◌, ap, subst}
 use lib.Dec.{leb, ltb, eqb}
 use lib.ListN.{length, set}
 use lib.Seq.{set_out}
-use borrow.Author.Tests.{leb-true, le-leb, lt-leb, eq-eqb, ne_eqb}
+use borrow.Author.Tests.{leb-true}
 use Rattle.bits.specs.declared.OctetSize.{OctetSize}
 use Rattle.answer.specs.Numbers.{refusal_at, accepted, answer_if}
 use Rattle.answer.specs.declared.Refusal.{Refusal}
@@ -20,42 +19,11 @@ use Rattle.seen.specs.Records.{holds, first_with, first_free, record_of}
 use Rattle.seen.specs.Search.{wanted_by}
 use Rattle.seen.proofs.Searches.{not_held}
 use Rattle.forward.specs.Forward.{subtype, version, message_id, hop_count, forward_answer, seen_by, seen_after}
-use Rattle.forward.specs.Parts.{refused_head, head_if, head_of, ask_of, step_if, chosen, step_of, kept_by, Emits}
+use Rattle.forward.specs.Parts.{head_if, head_of, ask_of, step_if, chosen, step_of, kept_by, Emits}
 use Rattle.forward.specs.declared.Head.{Head}
 use Rattle.forward.specs.declared.Head.TheVariants.{Id}
 use Rattle.forward.specs.declared.Ask.{Ask}
 use Rattle.forward.specs.declared.Step.{Step}
-
--- ── each test of a message as the code makes it ──
-
-module _ (m : List ℕ) where
-  pub head-long : 65535 < length m → refused_head (refusal_at 13 0) ≡ head_of m
-  unfolding head_of
-  head-long h = rw (lt-leb (length m) 65535 h)
-
-  module _ (most : length m ≤ 65535) where
-    pub head-short : length m < 4 → refused_head (refusal_at 2 0) ≡ head_of m
-    unfolding head_of
-    head-short h = rw (le-leb (length m) 65535 most, lt-leb 4 (length m) h)
-
-    module _ (long : 4 ≤ length m) where
-      pub head-version : version m ≢ 3 → refused_head (refusal_at 10 5) ≡ head_of m
-      unfolding head_of
-      head-version h = rw (le-leb (length m) 65535 most, le-leb 4 (length m) long, ne_eqb (version m) 3 h)
-
-      module _ (three : version m ≡ 3) where
-        pub head-subtype : subtype m ≢ 2 → refused_head (refusal_at 11 0) ≡ head_of m
-        unfolding head_of
-        head-subtype h = rw (le-leb (length m) 65535 most, le-leb 4 (length m) long, eq-eqb (version m) 3 three, ne_eqb (subtype m) 2 h)
-
-        module _ (two : subtype m ≡ 2) where
-          pub head-hops : hop_count m < 1 → refused_head (refusal_at 40 30) ≡ head_of m
-          unfolding head_of
-          head-hops h = rw (le-leb (length m) 65535 most, le-leb 4 (length m) long, eq-eqb (version m) 3 three, eq-eqb (subtype m) 2 two, lt-leb 1 (hop_count m) h)
-
-          pub head-id : 1 ≤ hop_count m → Id (message_id m) ≡ head_of m
-          unfolding head_of
-          head-id h = rw (le-leb (length m) 65535 most, le-leb 4 (length m) long, eq-eqb (version m) 3 three, eq-eqb (subtype m) 2 two, le-leb 1 (hop_count m) h)
 
 -- ── the tests by the list ──
 

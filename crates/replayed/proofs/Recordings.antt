@@ -12,8 +12,7 @@ use Rattle.octets.specs.Numbers.{u16}
 use Rattle.machine.specs.declared.Front.{Front}
 use Rattle.machine.specs.declared.Front.TheVariants.{Whole, Part, Wrong}
 use Rattle.machine.specs.Machine.{unit, Units, none, more, joined, given}
-use Rattle.machine.proofs.Fronts.{part_not_whole, wrong_not_whole}
-use Rattle.machine.proofs.Left.{none_left}
+use Rattle.std.proofs.lemmas.List.{nil_from_length}
 use Rattle.house.specs.House.{first_frame, whole_frames}
 use Rattle.house.proofs.Fronts.{whole_within_lem, whole_stays}
 use Rattle.house.proofs.Wholes.{whole_first, whole_none, whole_nothing, whole_alone}
@@ -67,8 +66,8 @@ singly_within (suc most) rs s h =
         → ((size : ℕ) → first_frame s ≡ Whole size → (given replay (list_after rs (take size s)) (drop size s)).left ≡ after (list_after rs (take size s)) (calls_of (frames_within most (drop size s))))
         → (given replay rs s).left ≡ after rs (calls_of (frames_by s f (λ size. frames_within most (drop size s))))
     by (Whole size) e rest = (behind rs s size e).1 ∙ rest size e ∙ sym (by_call rs (take size s) (calls_of (frames_within most (drop size s))))
-    by Part e rest = (nothing_whole rs s (not_by s Part e part_not_whole)).1
-    by Wrong e rest = (nothing_whole rs s (not_by s Wrong e wrong_not_whole)).1
+    by Part e rest = (nothing_whole rs s (not_by s Part e (λ size p. cc))).1
+    by Wrong e rest = (nothing_whole rs s (not_by s Wrong e (λ size p. cc))).1
 
 -- ---- whole frames and nothing else
 
@@ -80,7 +79,7 @@ units_within (suc most) rs x h w =
   where
     nothing : ((size : ℕ) → first_frame x ≡ Whole size → ⊥) → Units replay rs x (given replay rs x).text (given replay rs x).left
     nothing last =
-        let none_there : x ≡ [] = none_left x (omega (arith, w, whole_none x last)) in
+        let none_there : x ≡ [] = nil_from_length x (omega (arith, w, whole_none x last)) in
         let are = nothing_whole rs x last in
         rw (are.0, are.1) (rw none_there none)
 
@@ -90,8 +89,8 @@ units_within (suc most) rs x h w =
     by (Whole size) e rest =
         let are = behind rs x size e in
         rw (are.0, are.1) (more size e (rest size e))
-    by Part e rest = nothing (not_by x Part e part_not_whole)
-    by Wrong e rest = nothing (not_by x Wrong e wrong_not_whole)
+    by Part e rest = nothing (not_by x Part e (λ size p. cc))
+    by Wrong e rest = nothing (not_by x Wrong e (λ size p. cc))
 
 cut : (rs : List Seen) (x y : List ℕ) → WholeFrames x
     → ((given replay rs (x ++ y)).text ≡ (given replay rs x).text ++ (given replay (given replay rs x).left y).text)
@@ -109,7 +108,7 @@ longest_within (suc most) x y h w =
   where
     nothing : ((size : ℕ) → first_frame x ≡ Whole size → ⊥) → whole_frames (x ++ y) ≡ length x + whole_frames y
     nothing last =
-        let none_there : x ≡ [] = none_left x (omega (arith, w, whole_none x last)) in
+        let none_there : x ≡ [] = nil_from_length x (omega (arith, w, whole_none x last)) in
         rw none_there (omega arith)
 
     by : (f : Front) → first_frame x ≡ f → ((size : ℕ) → first_frame x ≡ Whole size → whole_frames (drop size x ++ y) ≡ length (drop size x) + whole_frames y)
@@ -119,8 +118,8 @@ longest_within (suc most) x y h w =
         let first = whole_first (x ++ y) size (whole_stays x y size e) in
         let same = ap whole_frames (drop-append-le size x y fits.1) in
         omega (arith, first, same, rest size e, length-drop size x, fits.1)
-    by Part e rest = nothing (not_by x Part e part_not_whole)
-    by Wrong e rest = nothing (not_by x Wrong e wrong_not_whole)
+    by Part e rest = nothing (not_by x Part e (λ size p. cc))
+    by Wrong e rest = nothing (not_by x Wrong e (λ size p. cc))
 
 -- ---- the whole frames that octets begin with
 
@@ -142,8 +141,8 @@ first_within (suc most) s h = by (first_frame s) refl (λ size whole. first_with
         let there = length-take-le k (drop size s) so.0 in
         let one = length-take-le size s fits.1 in
         (omega (arith, first, so.0, length-drop size s, fits.1), rw (first, take-add size k s) (omega (arith, long, one, there, so.1, length-append (take size s) (take k (drop size s)))))
-    by Part e rest = nothing (not_by s Part e part_not_whole)
-    by Wrong e rest = nothing (not_by s Wrong e wrong_not_whole)
+    by Part e rest = nothing (not_by s Part e (λ size p. cc))
+    by Wrong e rest = nothing (not_by s Wrong e (λ size p. cc))
 
 next_whole : (x y : List ℕ) (size : ℕ) → WholeFrames x → first_frame y ≡ Whole size → WholeFrames (x ++ take size y)
 next_whole x y size w e =
@@ -158,8 +157,8 @@ frames_within_lem (suc most) s h = by (first_frame s) refl (λ size whole. frame
     by : (f : Front) → first_frame s ≡ f → ((size : ℕ) → first_frame s ≡ Whole size → joined (frames_within most (drop size s)) ≡ take (whole_frames (drop size s)) (drop size s))
         → joined (frames_by s f (λ size. frames_within most (drop size s))) ≡ take (whole_frames s) s
     by (Whole size) e rest = rw (whole_first s size e, take-add size (whole_frames (drop size s)) s, rest size e)
-    by Part e rest = rw (whole_none s (not_by s Part e part_not_whole))
-    by Wrong e rest = rw (whole_none s (not_by s Wrong e wrong_not_whole))
+    by Part e rest = rw (whole_none s (not_by s Part e (λ size p. cc)))
+    by Wrong e rest = rw (whole_none s (not_by s Wrong e (λ size p. cc)))
 
 -- ---- what is behind them
 

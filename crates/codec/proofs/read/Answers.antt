@@ -5,8 +5,7 @@ use lib.ListN.{length}
 use mathlib.Core.List.{List}
 use lib.IntN.{ℤ, pos}
 use Rattle.items.specs.Slices.{filled}
-use Rattle.table.specs.Verdict.{verdict}
-use Rattle.reading.proofs.Passed.{accepted-passed, accepted-obeys, broken-outcome}
+use Rattle.reading.proofs.Passed.{accepted-obeys, broken-outcome}
 use Rattle.codec.proofs.read.Goals as goal
 
 pub returns-in_default : goal.returns-in_default

@@ -10,12 +10,11 @@ use Rattle.answer.specs.declared.Answer.{Answer}
 use Rattle.items.specs.Reading.{read_answer, read_values}
 use Rattle.items.specs.Slices.{filled}
 use Rattle.values.specs.Values.{list_octets}
-use Rattle.table.specs.Verdict.{verdict}
 use Rattle.encoding.specs.Rows.{asks}
 use Rattle.items.proofs.Messages.{message_fits}
 use Rattle.read_steps.specs.Ends.{kept_count}
 use Rattle.reading.specs.Outcome.{message_outcome}
-use Rattle.reading.proofs.Passed.{accepted-passed, accepted-obeys, passed-outcome, broken-outcome}
+use Rattle.reading.proofs.Passed.{accepted-obeys, passed-outcome, broken-outcome}
 use Rattle.read_steps.proofs.Settled.{count-is, settled-packed}
 use Rattle.codec.proofs.read_packed.Goals as goal
 

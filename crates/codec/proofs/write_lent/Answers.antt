@@ -4,10 +4,9 @@ use Prim.Native.Nat.{ℕ}
 use mathlib.Core.Path.{sym, ap, ◌∙◌}
 use lib.ListN.{length}
 use mathlib.Core.List.{List}
-use Rattle.table.specs.Verdict.{verdict}
 use Rattle.items.specs.Slices.{filled}
 use Rattle.write_steps.specs.Writes.{list_in}
-use Rattle.reading.proofs.Passed.{accepted-passed, accepted-obeys}
+use Rattle.reading.proofs.Passed.{accepted-obeys}
 use Rattle.writing.proofs.Passed.{write-broken}
 use Rattle.codec.proofs.write_lent.Goals as goal
 

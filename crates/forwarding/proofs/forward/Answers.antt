@@ -1,9 +1,8 @@
 -- `forwarding::forward` meets its contract.
-use mathlib.Core.Path.{sym, ◌∙◌, ap, subst}
+use mathlib.Core.Path.{◌∙◌, ap}
 use lib.ListN.{length}
 use Rattle.answer.specs.declared.Answer.{Answer}
 use Rattle.forward.specs.Forward.{output_by}
-use Rattle.forward.specs.Parts.{Emits}
 use Rattle.forward.proofs.Together.{answer_is, list_is, emits}
 use Rattle.forwarding.proofs.forward.Goals as goal
 
@@ -12,7 +11,7 @@ emit-requires c =
     let a = c.args in
     let m = a.message.now in
     let n = length a.output.now in
-    subst (λ (k : Answer). Emits k m n) (sym (answer_is m a.time a.seen.now n c.asked-ask.ensures c.remember-answer.ensures.0)) (emits m a.time a.seen.now n)
+    rw (answer_is m a.time a.seen.now n c.asked-ask.ensures c.remember-answer.ensures.0) (emits m a.time a.seen.now n)
 
 pub returns : goal.returns
 returns c =

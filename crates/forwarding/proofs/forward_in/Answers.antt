@@ -1,11 +1,10 @@
 -- `forwarding::forward_in` meets its contract.
 use mathlib.Core.List.{List}
-use mathlib.Core.Path.{sym, ◌∙◌, ap, ap₂, subst}
+use mathlib.Core.Path.{◌∙◌, ap, ap₂}
 use lib.ListN.{length}
 use Rattle.answer.specs.declared.Answer.{Answer}
 use Rattle.seen.specs.declared.Seen.{Seen}
 use Rattle.forward.specs.Forward.{output_by}
-use Rattle.forward.specs.Parts.{Emits}
 use Rattle.forward.proofs.Together.{answer_is, list_is, emits}
 use Rattle.forwarding.specs.declared.Forwarded.{Forwarded}
 use Rattle.forwarding.proofs.forward_in.Goals as goal
@@ -15,7 +14,7 @@ emit-requires c =
     let a = c.args in
     let m = a.message.now in
     let n = length a.output.now in
-    subst (λ (k : Answer). Emits k m n) (sym (answer_is m a.time a.seen n c.asked-ask.ensures (ap (λ (k : Forwarded). k.answer) c.remember_in-taken.ensures))) (emits m a.time a.seen n)
+    rw (answer_is m a.time a.seen n c.asked-ask.ensures (ap (λ (k : Forwarded). k.answer) c.remember_in-taken.ensures)) (emits m a.time a.seen n)
 
 pub returns : goal.returns
 returns c =

@@ -8,9 +8,6 @@ use Rattle.lm_fields.proofs.Wholes.{whole_fields}
 use Rattle.lm_sections.proofs.Sections.{passes-end}
 use Rattle.lm_sections.proofs.read_section.Goals as goal
 
-pub fields-fields-requires : goal.fields-fields-requires
-fields-fields-requires c = (c.requires.0, (rw c.in-Part.is at c.open-opened.ensures).2)
-
 pub returns-in_default : goal.returns-in_default
 unfolding on behind
 returns-in_default c =
@@ -22,9 +19,6 @@ returns-in_default c =
 pub section_strings-step-requires : goal.section_strings-step-requires
 section_strings-step-requires c =
     (c.requires.0, aligned_after (whole_fields c.in-Part.kind) (rw c.in-Part.is at c.open-opened.ensures).2 c.fields-fields.ensures c.in-Past.is)
-
-pub returns-in-Refused : goal.returns-in-Refused
-returns-in-Refused c = rw c.in-Refused.is at c.open-opened.ensures
 
 pub returns-in-Past : goal.returns-in-Past
 unfolding on behind

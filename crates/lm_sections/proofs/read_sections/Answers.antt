@@ -6,19 +6,9 @@ use Rattle.lm_items.specs.Asked.{rank, asked}
 use Rattle.lm_sections.proofs.Sections.{no_more}
 use Rattle.lm_sections.proofs.read_sections.Goals as goal
 
-pub loop-section-init : goal.loop-section-init
-loop-section-init c = (refl, refl, c.requires.1, continues_same refl)
-
-pub read_section-passed-requires : goal.read_section-passed-requires
-read_section-passed-requires c =
-    (search rules, c.loop-section.invariant.2, rw c.rank.ensures at c.loop-section-test.true)
-
 pub returns-in_default : goal.returns-in_default
 returns-in_default c =
     rw (c.stopped.ensures, c.in_default.is) (c.loop-section.invariant.3.complete _ _ _ (rw c.in_default.is at c.read_section-passed.ensures))
-
-pub loop-section-smaller : goal.loop-section-smaller
-loop-section-smaller c = (rw c.in-Next.is at c.read_section-passed.ensures).1
 
 pub loop-section-preserved : goal.loop-section-preserved
 loop-section-preserved c =

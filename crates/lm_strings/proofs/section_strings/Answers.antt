@@ -7,10 +7,6 @@ use Rattle.read_steps.proofs.Flow.{continues-trans, continues_same}
 use Rattle.lm_items.specs.Asked.{string_items, strings_items}
 use Rattle.lm_strings.proofs.section_strings.Goals as goal
 
-pub strings-requires : goal.strings-requires
-strings-requires c =
-    (c.requires.0, (rw c.in-Strings.is at c.count-counted.ensures).1)
-
 pub returns-in-Strings : goal.returns-in-Strings
 returns-in-Strings c =
     let a = c.args in

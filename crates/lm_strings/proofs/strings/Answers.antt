@@ -10,15 +10,6 @@ use Rattle.lm_items.specs.Asked.{string_items}
 use Rattle.lm_strings.proofs.Wholes.{whole_string}
 use Rattle.lm_strings.proofs.strings.Goals as goal
 
-pub loop-done-init : goal.loop-done-init
-loop-done-init c =
-    (omega arith, refl, refl, c.requires.1, continues_same (ap (λ (n : ℕ). times n (string_items c.args.kind)) (omega arith)))
-
-pub string-step-requires : goal.string-step-requires
-string-step-requires c = (search rules, c.loop-done.invariant.3)
-
--- what is left begins with one string
-
 pub returns-in_default : goal.returns-in_default
 returns-in_default c =
     let one_more : let a = c.args in let done = c.loop-done.done in

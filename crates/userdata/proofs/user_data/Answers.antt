@@ -8,10 +8,6 @@ use lib.ListN.{length, take, drop}
 use Rattle.userdata.proofs.Outcome.{found-ends}
 use Rattle.userdata.proofs.user_data.Goals as goal
 
-pub returns-in_default : goal.returns-in_default
-returns-in_default c =
-    rw (sym c.user_data_place-found.ensures ∙ c.in_default.is) (refl, refl, sym (add-zero c.args.message.ref_ptr.1))
-
 pub slice_bounds-result-count : goal.slice_bounds-result-count
 slice_bounds-result-count c = omega (arith, found-ends c.args.message.now c.in-At.span (sym c.in-At.ensures))
 

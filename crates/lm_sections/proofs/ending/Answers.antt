@@ -1,9 +1,0 @@
--- `lm_sections::ending` meets its contract. By cases.
--- Assumes nothing.
-use Rattle.lm_sections.proofs.ending.Goals as goal
-
-pub returns-in-Past : goal.returns-in-Past
-returns-in-Past c = rw c.in-Past.is
-
-pub returns-in-Refused : goal.returns-in-Refused
-returns-in-Refused c = rw c.in-Refused.is

@@ -1,9 +1,0 @@
--- `userdata::refused` meets its contract. By the answer.
--- Assumes nothing.
-use Rattle.userdata.proofs.refused.Goals as goal
-
-pub returns-in-Accepted : goal.returns-in-Accepted
-returns-in-Accepted c = rw c.in-Accepted.is
-
-pub returns-in-Refused : goal.returns-in-Refused
-returns-in-Refused c = rw c.in-Refused.is
