@@ -1,9 +1,9 @@
 -- `userdata::user_data` meets its contract. The part that was found, to the message's end.
 -- Assumes nothing.
 use Prim.Native.Nat.{◌-◌}
-use mathlib.Core.Path.{◌≡◌, refl, sym, ap, ◌∙◌}
+use mathlib.Core.Path.{◌≡◌, refl, sym, ap}
 use native.Mathlib.Omega.{arith}
-use native.Mathlib.Nat.{add-zero, add_comm}
+use native.Mathlib.Nat.{add_comm}
 use lib.ListN.{length, take, drop}
 use Rattle.userdata.proofs.Outcome.{found-ends}
 use Rattle.userdata.proofs.user_data.Goals as goal
