@@ -2,7 +2,7 @@
 -- document 02's least length of an element's data (ticket 2).
 -- It knows nothing of any table: to be believed, this file is held against the figures. specs/Demand2.antt says that the
 -- built-in table of LM is this layout.
--- The one_octet length goes up to 0x7F: the standard's 0xEF is a slip (document 01). Transport feature 2, the LPP header, is
+-- The one-octet length goes up to 0x7F: the standard's 0xEF is a slip (document 01). Transport feature 2, the LPP header, is
 -- left out (document 01). The TPID's feature selector, which the figures draw at the end of the N-Header, stands here at the
 -- beginning of the T-Header, as in the annex: the bits are the same, and an original N-Header has none.
 use Rattle.std.specs.Prelude.{ℕ, ◌-◌, ◌≤◌, Bool, true, false, cond, ◌≡◌, List, [], ◌∷◌, ◌++◌, map, leb, ltb, ℤ, pos, length}
