@@ -300,17 +300,34 @@ fn refusals_are_named_and_explained_alike() {
     assert!(Refusal::ALL.is_sorted_by(|left, right| left < right));
 }
 
+/// The name of a constant for a variant: `TooLong` is `TOO_LONG`.
+fn constant_name(variant: &str) -> String {
+    let mut name = String::new();
+    for letter in variant.chars() {
+        if letter.is_uppercase() && !name.is_empty() {
+            name.push('_');
+        }
+        name.push(letter.to_ascii_uppercase());
+    }
+    name
+}
+
 /// The names are those that the library's own sources have.
 #[test]
 fn refusals_are_named_as_in_the_library() {
     const SOURCE: &str = include_str!("../../crates/answer/src/lib.rt");
-    let constants: Vec<_> = SOURCE
+    let (_, reasons) = SOURCE
+        .split_once("pub enum Reason {")
+        .expect("the reasons");
+    let (reasons, _) = reasons.split_once("\n}").expect("their end");
+    let constants: Vec<_> = reasons
         .lines()
-        .filter_map(|line| line.trim().strip_prefix("pub const ")?.strip_suffix(';'))
+        .filter_map(|line| line.trim().strip_suffix(',')?.split_once(" = "))
+        .map(|(name, number)| format!("{}: {number}", constant_name(name)))
         .collect();
     let named = |&number: &u32| {
         let name = Refusal::name(number).expect("a name");
-        format!("{name}: u32 = {number}")
+        format!("{name}: {number}")
     };
     assert!(Refusal::ALL.iter().map(named).eq(constants));
 }

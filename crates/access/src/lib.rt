@@ -6,7 +6,7 @@ ghost use Rattle.std.specs.Prelude.{◌≡◌, ◌+◌, ◌-◌, ◌*◌, ◌%�
 ghost use Rattle.bits.specs.Bits.{number_of, bits_of, unpack};
 ghost use Rattle.bits.specs.Access.{most_octets, fetched, stored, overwritten};
 
-use bits::{BitPlace, Fetched, Stored};
+use bits::BitPlace;
 
 // Whether the k bits from a place on lie within so many octets. They do where four octets follow the place's; else the octets
 // that hold them are counted.
@@ -14,12 +14,12 @@ fn inside(octets: usize, place: BitPlace, k: u32) -> bool
     requires { (octets ≤ most_octets) × (k ≤ 32) }
     ensures { result ≡ leb (place.0 + k) (8 * octets) }
 {
-    let first = BitPlace::octets_before(place);
+    let first = place.octets_before();
     if first.0 + 4 < octets {
         return true;
     }
-    let end = BitPlace::bits_into_octet(place) + k;
-    first.0 + ((end + 7) / 8) as usize <= octets
+    let end = place.bits_into_octet() + k;
+    first.0 + end.div_ceil(8) as usize <= octets
 }
 
 // How many bits follow the k from a place on in the five octets that begin with the place's.
@@ -27,22 +27,22 @@ fn bits_behind(place: BitPlace, k: u32) -> u32
     requires { k ≤ 32 }
     ensures { result ≡ 40 - place.0 % 8 - k }
 {
-    40 - BitPlace::bits_into_octet(place) - k
+    40 - place.bits_into_octet() - k
 }
 
 // The k bits from a place on, as a number.
-pub fn fetch(message: &[u8], place: BitPlace, k: u32) -> Fetched
+pub fn fetch(message: &[u8], place: BitPlace, k: u32) -> Option<(u32, BitPlace)>
     requires { (length message.now ≤ most_octets) × (k ≤ 32) }
     ensures { result ≡ fetched message.now place.0 k }
 {
     if !inside(message.len(), place, k) {
-        return Fetched::Short;
+        return None;
     }
-    let first = BitPlace::octets_before(place);
+    let first = place.octets_before();
     let window = window::window(message, first.0);
-    let into = BitPlace::bits_into_octet(place);
-    let next = place.0 + k as usize;
-    Fetched::Bits(window::cut(window, into, k), BitPlace(next))
+    let into = place.bits_into_octet();
+    let next = BitPlace(place.0 + k as usize);
+    Some((window::cut(window, into, k), next))
 }
 
 // The eight bits that begin so many bits into an octet, all of them there. Without a test for each octet, so that a loop over
@@ -92,23 +92,20 @@ fn replace_in_pair(output: &mut [u8], at: usize, first: u64, below: u32, k: u32,
 
 // Stores the k bits of v from a place on, in two octets where they lie in two, else in the five that begin with the place's;
 // every other bit stays.
-fn store_wide(output: &mut [u8], place: BitPlace, k: u32, v: u32) -> Stored
+fn store_wide(output: &mut [u8], place: BitPlace, k: u32, v: u32) -> Option<BitPlace>
     requires { (length output.old ≤ most_octets) × (k ≤ 32) × (v < 2 ^ k) }
     ensures { (result ≡ stored output.old place.0 k) × (unpack output.new ≡ overwritten (unpack output.old) place.0 (bits_of k v)) }
 {
     if !inside(output.len(), place, k) {
-        return Stored::Full;
+        return None;
     }
-    let from = place.0;
-    let next = BitPlace(from + k as usize);
-    let first = BitPlace::octets_before(place);
+    let next = BitPlace(place.0 + k as usize);
+    let first = place.octets_before();
     let at = first.0;
-    let end = BitPlace::bits_into_octet(place) + k;
-    if end <= 16 {
-        if at + 1 < output.len() {
-            replace_in_pair(output, at, window::octet_inside(output, at), 16 - end, k, v);
-            return Stored::Next(next);
-        }
+    let end = place.bits_into_octet() + k;
+    if end <= 16 && at + 1 < output.len() {
+        replace_in_pair(output, at, window::octet_inside(output, at), 16 - end, k, v);
+        return Some(next);
     }
     let window = window::window(output, at);
     window::put_window(
@@ -116,27 +113,21 @@ fn store_wide(output: &mut [u8], place: BitPlace, k: u32, v: u32) -> Stored
         at,
         window::replace(window, bits_behind(place, k), k, v),
     );
-    Stored::Next(next)
+    Some(next)
 }
 
 // Stores the k bits of v from a place on; every other bit stays. One load and one store where they lie in one octet.
-pub fn store(output: &mut [u8], place: BitPlace, k: u32, v: u32) -> Stored
+pub fn store(output: &mut [u8], place: BitPlace, k: u32, v: u32) -> Option<BitPlace>
     requires { (length output.old ≤ most_octets) × (k ≤ 32) × (v < 2 ^ k) }
     ensures { (result ≡ stored output.old place.0 k) × (unpack output.new ≡ overwritten (unpack output.old) place.0 (bits_of k v)) }
 {
-    let from = place.0;
-    let first = BitPlace::octets_before(place);
-    let at = first.0;
-    if output.len() <= at {
+    let first = place.octets_before();
+    let end = place.bits_into_octet() + k;
+    if output.len() <= first.0 || 8 < end {
         return store_wide(output, place, k, v);
     }
-    let end = BitPlace::bits_into_octet(place) + k;
-    if 8 < end {
-        return store_wide(output, place, k, v);
-    }
-    replace_in_octet(output, at, 8 - end, k, v);
-    let next = from + k as usize;
-    Stored::Next(BitPlace(next))
+    replace_in_octet(output, first.0, 8 - end, k, v);
+    Some(BitPlace(place.0 + k as usize))
 }
 
 // Stores an octet that begins so many bits into an octet of the output, all of it there; every other bit stays. Without a
@@ -150,5 +141,5 @@ pub fn put_octet(output: &mut [u8], at: usize, into: u32, first: u64, octet: u8)
         output[at] = octet;
         return 0;
     }
-    replace_in_pair(output, at, first, 8 - into, 8, octet as u32)
+    replace_in_pair(output, at, first, 8 - into, 8, u32::from(octet))
 }

@@ -1,9 +1,10 @@
 -- The refusal numbers of document 01, and of document 02's tickets that have landed, by name, and which case of an answer stands for
 -- those papers' number and values.
-use Rattle.std.specs.Prelude.{ℕ, Bool, true, false, ◌≡◌}
-use Rattle.answer.specs.declared.Answer.{Answer}
+use Rattle.std.specs.Prelude.{ℕ, Result, Ok, Err, Bool, true, false, ◌≡◌}
+use Rattle.answer.specs.declared.Counts.{Counts}
+use Rattle.answer.specs.declared.Reason.{Reason}
+use Rattle.answer.specs.declared.Reason.TheVariants.{TableSize, MessageEnds, AboveSpan, NoBranch, BadLength, OutsideLimits, BadVariable, NoRoom, NotPadding, WrongVersion, WrongSubtype, WrongValue, TooLong, RowPastEnd, UnknownKind, WrongRowLength, WrongRowNumber, WrongReference, OnlyReserved, TooDeep, NoTable, NoHops, Seen, NoRecord}
 use Rattle.answer.specs.declared.Refusal.{Refusal}
-use Rattle.answer.specs.declared.Answer.TheVariants.{Accepted, Refused}
 
 -- the numbers
 abbrev pub table_size : ℕ
@@ -81,6 +82,37 @@ id_seen = 41
 abbrev pub no_record : ℕ
 no_record = 42
 
+-- the number of each reason that the code gives
+abbrev pub reason_number : Reason → ℕ
+reason_number TableSize = table_size
+reason_number MessageEnds = message_ends
+reason_number AboveSpan = above_span
+reason_number NoBranch = no_branch
+reason_number BadLength = bad_length
+reason_number OutsideLimits = outside_limits
+reason_number BadVariable = bad_variable
+reason_number NoRoom = no_room
+reason_number NotPadding = not_padding
+reason_number WrongVersion = wrong_version
+reason_number WrongSubtype = wrong_subtype
+reason_number WrongValue = wrong_value
+reason_number TooLong = too_long
+reason_number RowPastEnd = row_past_end
+reason_number UnknownKind = unknown_kind
+reason_number WrongRowLength = wrong_row_length
+reason_number WrongRowNumber = wrong_row_number
+reason_number WrongReference = wrong_reference
+reason_number OnlyReserved = only_reserved
+reason_number TooDeep = too_deep
+reason_number NoTable = no_table
+reason_number NoHops = no_hops
+reason_number Seen = id_seen
+reason_number NoRecord = no_record
+
+-- what a call answers: its counts, or the refusal
+abbrev pub Answer : Type 0
+Answer = Result Counts Refusal
+
 -- an outcome as document 01 tells it: a refusal's number, 0 where it is accepted; its place; the values, bits and octets counted
 pub record Outcome : Type 0 where
   pub number : ℕ
@@ -96,20 +128,20 @@ refusal_at number place = record { number = number; place = place }
 -- the case for each outcome: a refusal's number and place; the values, bits and octets counted. Every promise of an answer uses
 -- `accepted`, and `refused` or `Refused` of a refusal that `refusal_at` made
 abbrev pub refused : ℕ → ℕ → Answer
-refused number place = Refused (refusal_at number place)
+refused number place = Err (refusal_at number place)
 
 abbrev pub accepted : ℕ → ℕ → ℕ → Answer
-accepted values bits octets = Accepted (record { values = values; bits = record { 0 = bits }; octets = record { 0 = octets } })
+accepted values bits octets = Ok (record { values = values; bits = record { 0 = bits }; octets = record { 0 = octets } })
 
 -- an answer, if a test holds; else a refusal
 abbrev pub answer_if : Bool → Refusal → Answer → Answer
 answer_if true refusal x = x
-answer_if false refusal x = Refused refusal
+answer_if false refusal x = Err refusal
 
 -- and back: the number and values for each case, as the host is told them
 abbrev pub outcome_of : Answer → Outcome
-outcome_of (Accepted c) = record { number = 0; place = 0; values = c.values; bits = c.bits.0; octets = c.octets.0 }
-outcome_of (Refused r) = record { number = r.number; place = r.place; values = 0; bits = 0; octets = 0 }
+outcome_of (Ok c) = record { number = 0; place = 0; values = c.values; bits = c.bits.0; octets = c.octets.0 }
+outcome_of (Err r) = record { number = r.number; place = r.place; values = 0; bits = 0; octets = 0 }
 
 -- which is what the case was made of. The proof is proofs/Numbers.antt
 pub record Inverse : Type 0 where

@@ -12,10 +12,9 @@ use borrow.Author.Tests.{leb-true, leb-false, le-leb, lt-leb}
 use Rattle.bits.specs.Bits.{number_of, bits_of, unpack}
 use Rattle.bits.specs.Access.{place_at, fetched, stored, overwritten}
 use Rattle.bits.specs.declared.BitPlace.{BitPlace}
-use Rattle.bits.specs.declared.Fetched.TheVariants.{Bits, Short}
-use Rattle.bits.specs.declared.Stored.TheVariants.{Next, Full}
 use Rattle.bits.proofs.Bits.{length-bits_of, length-unpack}
 use Rattle.bits.proofs.Splice.{spliced, length-spliced, spliced-spliced}
+use Rattle.std.proofs.Common.{Some, None}
 
 -- the answer is not the second one, so the test was true and it is the first
 first_chosen : {A : Type 0} (t : Bool) (x y z : A) → cond t x y ≡ z → ((y ≡ z) → ⊥) → (t ≡ true) × (x ≡ z)
@@ -27,11 +26,8 @@ first_passed : {A : Type 0} (t : Bool) (x y z : A) → cond t x y ≡ z → ((x 
 first_passed true x y z e other = absurd (other e)
 first_passed false x y z e other = refl
 
-Bits_is_not_Short : (v : ℕ) (q : BitPlace) → Bits v q ≡ Short → ⊥
-Bits_is_not_Short v q e = let z : ◌≡◌ {A = ℕ} 0 1 = cc in omega arith
-
-Next_is_not_Full : (q : BitPlace) → Next q ≡ Full → ⊥
-Next_is_not_Full q e = let z : ◌≡◌ {A = ℕ} 0 1 = cc in omega arith
+Some_is_not_None : {A : Type 0} (x : A) → Some x ≡ None → ⊥
+Some_is_not_None x e = let z : ◌≡◌ {A = ℕ} 0 1 = cc in omega arith
 
 -- ---- fetching k bits at p
 
@@ -39,44 +35,44 @@ module _ (m : List ℕ) (p k : ℕ) where
   abbrev value : ℕ
   value = number_of (take k (drop p (unpack m)))
 
-  pub fetched_inside : p + k ≤ 8 * length m → fetched m p k ≡ Bits value (place_at (p + k))
+  pub fetched_inside : p + k ≤ 8 * length m → fetched m p k ≡ Some (value, place_at (p + k))
   fetched_inside h = rw (le-leb (p + k) (8 * length m) h)
 
-  pub fetched_past_end : 8 * length m < p + k → fetched m p k ≡ Short
+  pub fetched_past_end : 8 * length m < p + k → fetched m p k ≡ None
   fetched_past_end h = rw (lt-leb (p + k) (8 * length m) h)
 
-  pub fetched-Short : fetched m p k ≡ Short → 8 * length m < p + k
+  pub fetched-Short : fetched m p k ≡ None → 8 * length m < p + k
   fetched-Short e =
       let t = leb (p + k) (8 * length m) in
-      leb-false _ _ (first_passed t (Bits value (place_at (p + k))) Short Short e (Bits_is_not_Short value (place_at (p + k))))
+      leb-false _ _ (first_passed t (Some (value, place_at (p + k))) None None e (Some_is_not_None (value, place_at (p + k))))
 
-  pub fetched-Bits : (v : ℕ) (q : BitPlace) → fetched m p k ≡ Bits v q
+  pub fetched-Bits : (v : ℕ) (q : BitPlace) → fetched m p k ≡ Some (v, q)
       → (p + k ≤ 8 * length m) × (v ≡ number_of (take k (drop p (unpack m)))) × (q.0 ≡ p + k)
   fetched-Bits v q e =
       let t = leb (p + k) (8 * length m) in
-      let c = first_chosen t (Bits value (place_at (p + k))) Short (Bits v q) e (λ d. Bits_is_not_Short v q (sym d)) in
+      let c = first_chosen t (Some (value, place_at (p + k))) None (Some (v, q)) e (λ d. Some_is_not_None (v, q) (sym d)) in
       let b = c.1 in
-      let s : place_at (p + k) ≡ q = cc in
-      (leb-true _ _ c.0, cc, ap (λ (r : BitPlace). r.0) (sym s))
+      let s : ◌≡◌ {A = ℕ × BitPlace} (value, place_at (p + k)) (v, q) = cc in
+      (leb-true _ _ c.0, ap (λ (r : ℕ × BitPlace). r.0) (sym s), ap (λ (r : ℕ × BitPlace). r.1.0) (sym s))
 
 -- ---- storing k bits at p
 
 module _ (m : List ℕ) (p k : ℕ) where
-  pub stored_inside : p + k ≤ 8 * length m → stored m p k ≡ Next (place_at (p + k))
+  pub stored_inside : p + k ≤ 8 * length m → stored m p k ≡ Some (place_at (p + k))
   stored_inside h = rw (le-leb (p + k) (8 * length m) h)
 
-  pub stored_past_end : 8 * length m < p + k → stored m p k ≡ Full
+  pub stored_past_end : 8 * length m < p + k → stored m p k ≡ None
   stored_past_end h = rw (lt-leb (p + k) (8 * length m) h)
 
-  pub stored-Full : stored m p k ≡ Full → 8 * length m < p + k
+  pub stored-Full : stored m p k ≡ None → 8 * length m < p + k
   stored-Full e =
       let t = leb (p + k) (8 * length m) in
-      leb-false _ _ (first_passed t (Next (place_at (p + k))) Full Full e (Next_is_not_Full (place_at (p + k))))
+      leb-false _ _ (first_passed t (Some (place_at (p + k))) None None e (Some_is_not_None (place_at (p + k))))
 
-  pub stored-Next : (q : BitPlace) → stored m p k ≡ Next q → (p + k ≤ 8 * length m) × (q.0 ≡ p + k)
+  pub stored-Next : (q : BitPlace) → stored m p k ≡ Some q → (p + k ≤ 8 * length m) × (q.0 ≡ p + k)
   stored-Next q e =
       let t = leb (p + k) (8 * length m) in
-      let c = first_chosen t (Next (place_at (p + k))) Full (Next q) e (λ d. Next_is_not_Full q (sym d)) in
+      let c = first_chosen t (Some (place_at (p + k))) None (Some q) e (λ d. Some_is_not_None q (sym d)) in
       let n = c.1 in
       let s : place_at (p + k) ≡ q = cc in
       (leb-true _ _ c.0, ap (λ (r : BitPlace). r.0) (sym s))
@@ -123,7 +119,7 @@ overwritten_none b p = go (leb (p + 0) (length b)) (take-append-drop p b)
 -- storing k bits of v at p, with room for them: bits with those from p on replaced are what it leaves
 module _ (m : List ℕ) (p k v : ℕ) (fits : p + k ≤ 8 * length m) where
   pub stored-spliced : {b : List Bool} → b ≡ spliced (unpack m) p (bits_of k v)
-      → (Next (place_at (p + k)) ≡ stored m p k) × (b ≡ overwritten (unpack m) p (bits_of k v))
+      → (Some (place_at (p + k)) ≡ stored m p k) × (b ≡ overwritten (unpack m) p (bits_of k v))
   stored-spliced e = (
     sym (stored_inside m p k fits),
     e ∙ sym (overwritten_inside (unpack m) p (bits_of k v) (rw (length-unpack, length-bits_of) fits)),

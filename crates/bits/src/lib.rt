@@ -6,11 +6,11 @@ ghost use Rattle.std.specs.Prelude.{◌≡◌, ◌+◌, ◌-◌, ◌*◌, ◌/�
 ghost use Rattle.bits.specs.Access.{most_octets};
 
 // A place in a message, counted in bits from its first (document 01: place).
-#[derive(Clone, Copy)]
+#[derive(Clone, Copy, Debug, Default, PartialEq, Eq)]
 pub struct BitPlace(pub usize);
 
 // A size in octets.
-#[derive(Clone, Copy)]
+#[derive(Clone, Copy, Debug, Default, PartialEq, Eq)]
 pub struct OctetSize(pub usize);
 
 impl BitPlace {
@@ -23,25 +23,25 @@ impl BitPlace {
     }
 
     // The place so many octets further on.
-    pub fn further(place: BitPlace, size: OctetSize) -> BitPlace
-        requires { place.0 + 8 * size.0 < 18446744073709551616 }
-        ensures { result.0 ≡ place.0 + 8 * size.0 }
+    pub fn further(self, size: OctetSize) -> BitPlace
+        requires { self.0 + 8 * size.0 < 18446744073709551616 }
+        ensures { result.0 ≡ self.0 + 8 * size.0 }
     {
-        BitPlace(place.0 + 8 * size.0)
+        BitPlace(self.0 + 8 * size.0)
     }
 
     // The whole octets before a place.
-    pub fn octets_before(place: BitPlace) -> OctetSize
-        ensures { result.0 ≡ place.0 / 8 }
+    pub fn octets_before(self) -> OctetSize
+        ensures { result.0 ≡ self.0 / 8 }
     {
-        OctetSize(place.0 / 8)
+        OctetSize(self.0 / 8)
     }
 
     // How many bits of the octet that a place stands in come before it.
-    pub fn bits_into_octet(place: BitPlace) -> u32
-        ensures { result ≡ place.0 % 8 }
+    pub fn bits_into_octet(self) -> u32
+        ensures { result ≡ self.0 % 8 }
     {
-        (place.0 % 8) as u32
+        (self.0 % 8) as u32
     }
 }
 
@@ -53,12 +53,7 @@ impl OctetSize {
     pub fn between(from: BitPlace, to: BitPlace) -> OctetSize
         ensures { result.0 ≡ (to.0 - from.0) / 8 }
     {
-        let start = from.0;
-        let end = to.0;
-        if end < start {
-            return OctetSize(0);
-        }
-        OctetSize((end - start) / 8)
+        OctetSize(to.0.saturating_sub(from.0) / 8)
     }
 
     // The octets that hold every bit before a place, and one where there are none.
@@ -66,24 +61,6 @@ impl OctetSize {
         requires { place.0 ≤ 8 * most_octets }
         ensures { result.0 ≡ max 1 ((place.0 + 7) / 8) }
     {
-        let whole = (place.0 + 7) / 8;
-        if whole < 1 {
-            return OctetSize(1);
-        }
-        OctetSize(whole)
+        OctetSize(place.0.div_ceil(8).max(1))
     }
-}
-
-// What fetching bits gives: their number and the place after them, or that the message ends before.
-#[derive(Clone, Copy)]
-pub enum Fetched {
-    Bits(u32, BitPlace),
-    Short,
-}
-
-// What storing bits gives: the place after them, or that the output ends before.
-#[derive(Clone, Copy)]
-pub enum Stored {
-    Next(BitPlace),
-    Full,
 }

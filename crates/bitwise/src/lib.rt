@@ -5,7 +5,7 @@ ghost use Rattle.std.specs.Prelude.{◌≡◌, ◌+◌, ◌*◌, ◌<◌, ◌≤
 ghost use Rattle.bits.specs.Bits.{number_of, unpack};
 ghost use Rattle.bits.specs.Access.{most_octets, fetched};
 
-use bits::{BitPlace, Fetched};
+use bits::BitPlace;
 
 // The bit at a place, as 0 or 1.
 fn bit_at(message: &[u8], at: usize) -> u64
@@ -21,26 +21,20 @@ fn bits_from(message: &[u8], from: usize, k: u32) -> u32
     ensures { result ≡ number_of (take k (drop from (unpack message.now))) }
 {
     let mut number = 0;
-    let mut done = 0;
-    while done < k {
-        number = 2 * number + bit_at(message, from + done as usize);
-        done += 1;
+    for done in 0..k as usize {
+        number = 2 * number + bit_at(message, from + done);
     }
     number as u32
 }
 
 // The k bits from a place on, as a number.
-pub fn fetch(message: &[u8], place: BitPlace, k: u32) -> Fetched
+pub fn fetch(message: &[u8], place: BitPlace, k: u32) -> Option<(u32, BitPlace)>
     requires { (length message.now ≤ most_octets) × (k ≤ 32) }
     ensures { result ≡ fetched message.now place.0 k }
 {
-    let bits = 8 * message.len();
-    let from = place.0;
-    if bits < from {
-        return Fetched::Short;
+    let end = place.0.checked_add(k as usize)?;
+    if 8 * message.len() < end {
+        return None;
     }
-    if bits - from < k as usize {
-        return Fetched::Short;
-    }
-    Fetched::Bits(bits_from(message, from, k), BitPlace(from + k as usize))
+    Some((bits_from(message, place.0, k), BitPlace(end)))
 }

@@ -1,11 +1,12 @@
 -- Laws of the octets at hand: how many there are, and what reading behind them leaves.
-use Prim.Native.Nat.{ℕ, zero, suc, ◌+◌, ◌-◌, ◌≤◌}
-use mathlib.Core.Path.{◌≡◌, refl, ap, ◌∙◌}
+use Prim.Native.Nat.{ℕ, zero, suc, zero-le, ◌+◌, ◌-◌, ◌≤◌}
+use mathlib.Core.Path.{◌≡◌, refl, ap, subst, ◌∙◌}
 use mathlib.Core.Bool.{true}
 use mathlib.Core.List.{List, ◌++◌}
+use native.Mathlib.Nat.{zero-add}
 use native.Mathlib.Omega.{arith}
-use lib.ListN.{length, take, drop, length-take, length-drop}
-use lib.Seq.{length-take-le, take-add}
+use lib.ListN.{length, take, drop, length-drop}
+use lib.Seq.{paste, length-take-le, take-add, take-paste}
 use Rattle.buffers.specs.declared.State.{State}
 use Rattle.buffers.specs.declared.Led.{Led}
 use Rattle.buffers.specs.Held.{Held, HeldAfter, at_hand}
@@ -14,6 +15,12 @@ use Rattle.buffers.specs.InputOutput.{after_lines, read_to, after_read, Came}
 pub length-at_hand : (s : State) (input : List ℕ) → Held s → length input ≡ 65536 → length (at_hand s input) ≡ s.end - s.from
 length-at_hand s input held whole =
     length-take-le (s.end - s.from) (drop s.from input) (omega (arith, held.ordered, held.within, length-drop s.from input))
+
+-- octets copied to the front from further behind
+pub at_front : (input : List ℕ) (from have : ℕ) → have ≤ length input - from → take have (paste input 0 (drop from input) have) ≡ take have (drop from input)
+at_front input from have h =
+    subst (λ (n : ℕ). take n (paste input 0 (drop from input) have) ≡ take have (drop from input)) (zero-add have)
+    (take-paste input 0 (drop from input) have zero-le (rw (length-drop from input) h))
 
 held-read : (s : State) (have count : ℕ) → Held (read_to s have count) → HeldAfter (after_read s have count)
 held-read s have (suc count) held = held

@@ -1,2 +1,1 @@
 pub mod AtHand
-mod Moving

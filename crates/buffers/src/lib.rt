@@ -14,7 +14,7 @@ pub const INPUT: usize = 65536;
 pub const OUTPUT: usize = 65536;
 
 // What a program holds: the octets read and not used, which are those from `from` up to `end`; the lines not written, up to `lines`.
-#[derive(Clone, Copy)]
+#[derive(Clone, Copy, Debug, PartialEq, Eq)]
 pub struct State {
     pub from: usize,
     pub end: usize,
@@ -22,7 +22,7 @@ pub struct State {
 }
 
 // What a turn leads to: the next one, the end of the input, a stop before it, or an output that takes no more.
-#[derive(Clone, Copy)]
+#[derive(Clone, Copy, Debug, PartialEq, Eq)]
 pub enum Led {
     Next(State),
     End(State),
@@ -42,18 +42,6 @@ pub fn after(s: State, size: usize, lines: usize) -> State
     }
 }
 
-// Moves the octets from an index up to another to the front.
-fn move_down(input: &mut [u8], from: usize, end: usize)
-    requires { (from ≤ end) × (end ≤ length input.old) }
-    ensures { take (end - from) input.new ≡ take (end - from) (drop from input.old) }
-{
-    let mut i = from;
-    while i < end {
-        input[i - from] = input[i];
-        i += 1;
-    }
-}
-
 // Writes the first octets of the output.
 pub fn write(output: &[u8], lines: usize) -> bool
     requires { lines ≤ length output.now }
@@ -65,8 +53,7 @@ pub fn write(output: &[u8], lines: usize) -> bool
 fn after_write(written: bool, s: State) -> Led
     ensures { result ≡ after_write written s }
 {
-    let mut next = s;
-    next.lines = 0;
+    let next = State { lines: 0, ..s };
     if written { Led::Next(next) } else { Led::Lost }
 }
 
@@ -83,9 +70,11 @@ fn after_read(s: State, have: usize, count: usize) -> Led
     requires { have + count ≤ 65536 }
     ensures { result ≡ after_read s have count }
 {
-    let mut next = s;
-    next.from = 0;
-    next.end = have + count;
+    let next = State {
+        from: 0,
+        end: have + count,
+        ..s
+    };
     if 0 < count {
         Led::Next(next)
     } else {
@@ -94,16 +83,12 @@ fn after_read(s: State, have: usize, count: usize) -> Led
 }
 
 // Reads octets of the input behind the first so many, and tells how many: none at the input's end, and none where it can't be read.
-fn read_behind(source: Stdin, input: &mut [u8], have: usize) -> usize
+fn read_behind(mut source: Stdin, input: &mut [u8], have: usize) -> usize
     requires { have ≤ length input.old }
     ensures kept { take have input.new ≡ take have input.old }
     ensures within { have + result ≤ length input.old }
 {
-    let mut source = source;
-    match source.read(&mut input[have..]) {
-        Ok(count) => count,
-        Err(_) => 0,
-    }
+    source.read(&mut input[have..]).unwrap_or(0)
 }
 
 // Writes the lines that are held and, where the output took them, reads more of the input behind the octets at hand. There is
@@ -116,10 +101,9 @@ pub fn more(source: Stdin, input: &mut [u8], output: &[u8], s: State) -> Led
     let Led::Next(next) = flushed else {
         return flushed;
     };
-    let from = s.from;
-    let end = s.end;
-    move_down(input, from, end);
-    let have = end - from;
+    // the octets at hand, moved to the front
+    input.copy_within(s.from..s.end, 0);
+    let have = s.end - s.from;
     let count = read_behind(source, input, have);
     after_read(next, have, count)
 }

@@ -34,8 +34,7 @@ fn put_record(
     ensures appended { Appended out.old at (record_line order number octets.now (length values.old)) out.new result }
     ensures upper_bound { result ≤ at + 22 * length values.old + 69 }
 {
-    let record = pcap::record_of(order, octets);
-    match record {
+    match pcap::record_of(order, octets) {
         Record::Cut => {
             let word = lines::put_number(out, at, number);
             lines::put_text(out, word, b" cut\n")

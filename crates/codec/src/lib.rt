@@ -16,11 +16,10 @@ use answer::Answer;
 pub fn read(table: &[u8], message: &[u8], values: &mut [i64]) -> Answer
     ensures { (result ≡ read_call table.now message.now (length values.old)) × (values.new ≡ values_after (length values.old) (read_outcome table.now message.now (length values.old))) }
 {
-    let verdict = table::check(table);
-    let Answer::Accepted(_) = verdict else {
-        values::clear_values(values, 0);
-        return verdict;
-    };
+    if let Err(refusal) = table::check(table) {
+        values::clear(values, 0, 0);
+        return Err(refusal);
+    }
     reading::read_known(table, table::passed::root(table), message, values)
 }
 
@@ -28,17 +27,16 @@ pub fn read(table: &[u8], message: &[u8], values: &mut [i64]) -> Answer
 pub fn read_packed(table: &[u8], message: &[u8], packed: &mut [u8]) -> Answer
     ensures { (result ≡ read_call table.now message.now (length packed.old / 8)) × (packed.new ≡ packed_after (length packed.old) (read_outcome table.now message.now (length packed.old / 8))) }
 {
-    let verdict = table::check(table);
-    let Answer::Accepted(_) = verdict else {
-        values::clear_octets(packed, 0);
-        return verdict;
-    };
+    if let Err(refusal) = table::check(table) {
+        values::clear(packed, 0, 0);
+        return Err(refusal);
+    }
     let root = table::passed::root(table);
     let mut none = [0i64; 0];
     let room = packed.len() / 8;
     let answer = reading::read_passed(table, root, message, &mut none, packed, room);
     let kept = read_steps::kept_count(answer);
-    values::clear_octets(packed, kept * 8);
+    values::clear(packed, kept * 8, 0);
     answer
 }
 
@@ -62,10 +60,9 @@ pub fn write_packed(table: &[u8], packed: &[u8], output: &mut [u8]) -> Answer
 fn write_lent(table: &[u8], values: &[i64], packed: &[u8], output: &mut [u8]) -> Answer
     ensures { (result ≡ write_call table.now (list_in values.now packed.now) (length output.old)) × (output.new ≡ output_after (length output.old) (write_outcome table.now (list_in values.now packed.now) (length output.old))) }
 {
-    let verdict = table::check(table);
-    let Answer::Accepted(_) = verdict else {
-        values::clear_octets(output, 0);
-        return verdict;
-    };
+    if let Err(refusal) = table::check(table) {
+        values::clear(output, 0, 0);
+        return Err(refusal);
+    }
     writing::write_known(table, table::passed::root(table), values, packed, output)
 }

@@ -7,23 +7,23 @@ use native.Mathlib.Omega.{arith}
 use borrow.Author.Tests.{le-leb}
 use lib.ListN.{length, take, drop, length-drop}
 use lib.Seq.{length-take-le, take-append-le, take-take, take_at, drop_at}
-use Rattle.answer.specs.declared.Answer.{Answer}
-use Rattle.answer.specs.declared.Answer.TheVariants.{Accepted, Refused}
+use Rattle.answer.specs.Numbers.{Answer}
 use Rattle.lines.specs.Text.{Appended}
 use Rattle.seen.specs.declared.Seen.{Seen}
 use Rattle.forward.specs.Forward.{lowered, forward_answer, output_by}
 use Rattle.drive.specs.Replay.{any_frame, step_line}
 use Rattle.drive.proofs.Lengths.{lowered-size}
+use Rattle.std.proofs.Common.{Ok, Err}
 
 pub same_room : (m : List ℕ) (t : ℕ) (rs : List Seen) → length m ≤ any_frame → forward_answer m t rs (length m) ≡ forward_answer m t rs any_frame
 unfolding forward_answer
 same_room m t rs h = rw (le-leb (length m) (length m) (omega arith), le-leb (length m) any_frame h)
 
 pub step-octets : (x : Answer) (m : List ℕ) → step_line x (output_by x m (length m)) ≡ step_line x (lowered m)
-step-octets (Accepted c) m =
+step-octets (Ok c) m =
     let none : length m - length (lowered m) ≡ 0 = omega (arith, lowered-size m) in
     rw (none, append-nil (lowered m))
-step-octets (Refused r) m = refl
+step-octets (Err r) m = refl
 
 -- ---- octets that were put into the middle of a slice
 

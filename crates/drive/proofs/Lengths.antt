@@ -6,11 +6,9 @@ use mathlib.Core.List.{List, [], ◌∷◌, ◌++◌}
 use native.Mathlib.Omega.{arith}
 use lib.Dec.{leb, ltb, eqb}
 use lib.ListN.{length, length-append}
-use Rattle.answer.specs.Numbers.{refusal_at, answer_if}
+use Rattle.answer.specs.Numbers.{refusal_at, answer_if, Answer}
 use Rattle.answer.specs.declared.Counts.{Counts}
 use Rattle.answer.specs.declared.Refusal.{Refusal}
-use Rattle.answer.specs.declared.Answer.{Answer}
-use Rattle.answer.specs.declared.Answer.TheVariants.{Accepted, Refused}
 use Rattle.bits.proofs.Bits.{length-pack}
 use Rattle.lines.specs.Text.{decimal, number_line, placed_line, refused_line}
 use Rattle.lines.proofs.Decimal.{few-digits}
@@ -21,6 +19,7 @@ use Rattle.seen.specs.declared.Seen.{Seen}
 use Rattle.seen.specs.Records.{holds, first_free}
 use Rattle.forward.specs.Forward.{subtype, version, message_id, hop_count, lowered, forward_answer}
 use Rattle.drive.specs.Replay.{step_line}
+use Rattle.std.proofs.Common.{Ok, Err}
 
 -- a number of at most five digits
 abbrev Few : ℕ → Type 0
@@ -40,8 +39,8 @@ kind-line k h = number-line _ k (omega arith)
 -- ---- of a step
 
 pub data FewIn : Answer → Type 0 where
-  accepts : {c : Counts} → FewIn (Accepted c)
-  refuses : {r : Refusal} → Few r.number → Few r.place → FewIn (Refused r)
+  accepts : {c : Counts} → FewIn (Ok c)
+  refuses : {r : Refusal} → Few r.number → Few r.place → FewIn (Err r)
 
 few_if : (b : Bool) (number place : ℕ) {x : Answer} → Few number → Few place → FewIn x → FewIn (answer_if b (refusal_at number place) x)
 few_if true number place p q s = s

@@ -1,9 +1,8 @@
 -- Replaying a drive (document 02, ticket 8): a recording of house frames, and the list of seen records that it begins with, have one text, and
 -- leave one list. `replay` is that as a machine, whose state is the list; `given replay` is the text and the list left.
-use Rattle.std.specs.Prelude.{ℕ, cond, List, [], ◌∷◌, ◌++◌, leb, eqb, length, drop, replicate}
+use Rattle.std.specs.Prelude.{ℕ, cond, List, [], ◌∷◌, ◌++◌, leb, eqb, length, drop, replicate, Ok, Err}
 use Rattle.octets.specs.Numbers.{u16, u32}
-use Rattle.answer.specs.declared.Answer.{Answer}
-use Rattle.answer.specs.declared.Answer.TheVariants.{Accepted, Refused}
+use Rattle.answer.specs.Numbers.{Answer}
 use Rattle.lines.specs.Text.{refused_line}
 use Rattle.machine.specs.Machine.{Machine}
 use Rattle.house.specs.House.{first_frame, kind_line}
@@ -34,8 +33,8 @@ any_frame = 65536
 
 -- the line of a step: the forwarded octets in hexadecimal, or `no R at P`
 abbrev pub step_line : Answer → List ℕ → List ℕ
-step_line (Accepted c) forwarded = hex forwarded ++ (10 ∷ [])
-step_line (Refused r) forwarded = refused_line r
+step_line (Ok c) forwarded = hex forwarded ++ (10 ∷ [])
+step_line (Err r) forwarded = refused_line r
 
 -- of a message that was heard at a time, with a list
 abbrev pub heard_line : List ℕ → ℕ → List Seen → List ℕ

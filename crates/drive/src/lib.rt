@@ -7,6 +7,7 @@ ghost use Rattle.lines.specs.Text.{Appended};
 ghost use Rattle.drive.specs.Replay.{step_line, heard_line, heard_after, bad_frame, frame_line, list_after, left_line, empty_list};
 
 use answer::Answer;
+use forwarding::Forwarded;
 use seen::Seen;
 
 // The kind of a message that was heard.
@@ -19,16 +20,11 @@ const HEADER: usize = 8;
 pub fn empty_list() -> [Seen; 64]
     ensures { result ≡ empty_list }
 {
-    let one = Seen {
-        id: 0,
-        time: 0,
-        used: false,
-    };
-    [one; 64]
+    [Seen::default(); 64]
 }
 
 // The list after a frame, and the end of its line.
-#[derive(Clone, Copy)]
+#[derive(Clone, Copy, Debug, PartialEq, Eq)]
 pub struct Played {
     pub seen: [Seen; 64],
     pub end: usize,
@@ -40,11 +36,11 @@ fn put_step(out: &mut [u8], at: usize, answer: Answer, count: usize) -> usize
     ensures { Appended out.old at (step_line answer (take count (drop (at + count) out.old))) out.new result }
 {
     match answer {
-        Answer::Accepted(_) => {
+        Ok(_) => {
             let end = hexadecimal::put_hex(out, at, count);
             lines::put_text(out, end, b"\n")
         }
-        Answer::Refused(refusal) => lines::put_refusal(out, at, refusal),
+        Err(refusal) => lines::put_refusal(out, at, refusal),
     }
 }
 
@@ -56,11 +52,14 @@ fn put_heard(out: &mut [u8], at: usize, message: &[u8], time: u32, seen: [Seen; 
     let count = message.len();
     let from = at + count;
     let to = from + count;
-    let forwarded = forwarding::forward_in(message, time, seen, &mut out[from..to]);
-    let list = forwarded.seen;
-    let answer = forwarded.answer;
+    let Forwarded { seen, answer } = forwarding::forward_in(
+        message,
+        time,
+        seen,
+        &mut out[from..to],
+    );
     let end = put_step(out, at, answer, count);
-    Played { seen: list, end }
+    Played { seen, end }
 }
 
 // `bad frame`.
@@ -97,8 +96,9 @@ pub fn put_left(out: &mut [u8], at: usize, left: &[u8]) -> usize
     ensures appended { Appended out.old at (left_line left.now) out.new result }
     ensures upper_bound { result ≤ at + 10 }
 {
-    if 0 < left.len() {
-        return put_bad(out, at);
+    if left.is_empty() {
+        at
+    } else {
+        put_bad(out, at)
     }
-    at
 }

@@ -4,8 +4,8 @@
 
 ghost use Rattle.std.specs.Prelude.{◌<◌};
 
+use answer::Reason;
 use bits::{BitPlace, OctetSize};
-use item::{Item, Put};
 
 fn digit(n: u8) -> u8
     requires { n < 16 }
@@ -20,36 +20,26 @@ fn print_octet(octet: u8) {
 
 // The first n octets of a slice, in hexadecimal, a space after each.
 fn print_octets(octets: &[u8], n: usize) {
-    let mut i = 0;
-    while i < octets.len() {
-        if i < n {
-            print_octet(octets[i]);
-        }
-        i += 1;
+    for octet in octets.iter().take(n) {
+        print_octet(*octet);
     }
 }
 
 fn print_refusal(number: u32) {
     io::write_all(1, b"no ");
-    io::print_decimal(1, number as u64);
+    io::print_decimal(1, u64::from(number));
     io::write_all(1, b"\n");
 }
 
-// A value that is not negative, as every variable number and length; else 0.
-fn unsigned(value: i64) -> u64 {
-    if value < 0 { 0 } else { value as u64 }
-}
-
-// A value, and what it was written as.
-fn print_value(value: i64, output: &[u8], put: Put) {
-    io::print_decimal(1, unsigned(value));
+// A value, which is not negative, as every variable number and length, and what it was written as.
+fn print_value(value: i64, output: &[u8], put: Result<BitPlace, Reason>) {
+    io::print_decimal(1, value.unsigned_abs());
     io::write_all(1, b" ");
-    let Put::Next(end) = put else {
+    let Ok(end) = put else {
         io::write_all(1, b"not written\n");
         return;
     };
-    let octets = BitPlace::octets_before(end);
-    print_octets(output, octets.0);
+    print_octets(output, end.octets_before().0);
     io::write_all(1, b"written\n");
 }
 
@@ -58,14 +48,13 @@ fn variable(message: &[u8]) {
         return;
     }
     print_octets(message, message.len());
-    let r = read_item::variable(message, BitPlace(0));
-    match r {
-        Item::Value(value, _) => {
+    match read_item::variable(message, BitPlace(0)) {
+        Ok((value, _)) => {
             let mut output = [0u8; 4];
             let put = write_item::variable(&mut output, BitPlace(0), value);
             print_value(value, &output, put);
         }
-        Item::Bad(refusal) => print_refusal(refusal.number),
+        Err(refusal) => print_refusal(refusal.number),
     }
 }
 
@@ -74,14 +63,13 @@ fn length(message: &[u8]) {
         return;
     }
     print_octets(message, message.len());
-    let r = read_item::length(message, BitPlace(0), 0, 16383);
-    match r {
-        Item::Value(value, _) => {
+    match read_item::length(message, BitPlace(0), 0, 16383) {
+        Ok((value, _)) => {
             let mut output = [0u8; 4];
             let put = write_item::length(&mut output, BitPlace(0), 0, 16383, value);
             print_value(value, &output, put);
         }
-        Item::Bad(refusal) => print_refusal(refusal.number),
+        Err(refusal) => print_refusal(refusal.number),
     }
 }
 

@@ -5,14 +5,14 @@ ghost use Rattle.std.specs.Prelude.{◌≡◌};
 ghost use Rattle.elements.specs.Elements.{element_home};
 
 // An element ID and its home: 0 N-Header, 1 T-Header, 2 service info.
-#[derive(Clone, Copy)]
+#[derive(Clone, Copy, Debug, PartialEq, Eq)]
 pub struct Known {
     pub id: u8,
     pub home: u8,
 }
 
 // Whether an ID is known at the home asked about, at another home, or at none.
-#[derive(Clone, Copy)]
+#[derive(Clone, Copy, Debug, PartialEq, Eq)]
 pub enum Home {
     Here,
     Elsewhere,
@@ -53,16 +53,13 @@ pub fn element(id: u32, home: u32) -> Home
     if Known::HOMES <= home {
         return Home::Unknown;
     }
-    let mut i = 0;
-    while i < 16 {
-        let k = KNOWN[i];
-        if k.id as u32 == id {
-            if k.home as u32 == home {
+    for k in &KNOWN {
+        if u32::from(k.id) == id {
+            if u32::from(k.home) == home {
                 return Home::Here;
             }
             return Home::Elsewhere;
         }
-        i += 1;
     }
     Home::Unknown
 }

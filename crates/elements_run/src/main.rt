@@ -4,33 +4,21 @@
 use elements::Home;
 
 fn show(id: u32, home: u32) {
-    io::print_decimal(1, id as u64);
+    io::print_decimal(1, u64::from(id));
     io::write_all(1, b" ");
-    io::print_decimal(1, home as u64);
-    let answer = elements::element(id, home);
-    match answer {
-        Home::Here => {
-            io::write_all(1, b" here\n");
-        }
-        Home::Elsewhere => {
-            io::write_all(1, b" elsewhere\n");
-        }
-        Home::Unknown => {
-            io::write_all(1, b" unknown\n");
-        }
-    }
-}
-
-fn show_homes(id: u32) {
-    show(id, 0);
-    show(id, 1);
-    show(id, 2);
-    show(id, 3);
-    show(id, 65535);
+    io::print_decimal(1, u64::from(home));
+    let answer: &[u8] = match elements::element(id, home) {
+        Home::Here => b" here\n",
+        Home::Elsewhere => b" elsewhere\n",
+        Home::Unknown => b" unknown\n",
+    };
+    io::write_all(1, answer);
 }
 
 fn main() {
-    for id in 0..261 {
-        show_homes(id);
+    for id in 0..=260 {
+        for home in [0, 1, 2, 3, 65535] {
+            show(id, home);
+        }
     }
 }

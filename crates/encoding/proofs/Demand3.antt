@@ -11,7 +11,6 @@ use lib.Seq.{take-append_seam}
 use borrow.Author.Tests.{le-leb}
 use Rattle.answer.specs.Numbers.{accepted}
 use Rattle.answer.specs.declared.Counts.{Counts}
-use Rattle.answer.specs.declared.Answer.TheVariants.{Accepted}
 use Rattle.rules.specs.Rules.{Obeys}
 use Rattle.table.specs.Verdict.{Verdict, passed, broken, verdict, checked}
 use Rattle.table.proofs.Decides.{passes-exactly}
@@ -27,6 +26,7 @@ use Rattle.items.specs.Slices.{values_after, output_after}
 use Rattle.encoding.specs.Demand3.{Message, Stands, Demand3}
 use Rattle.items.proofs.Messages.{one_list, one_message, decode-complete, decode-sound}
 use Rattle.items.proofs.Written.{encode-complete}
+use Rattle.std.proofs.Common.{Ok}
 
 -- the check's answer is accepted exactly for the verdict passed
 checked-passed : (v : Verdict) → (checked v ≡ accepted 0 0 0) ↔ (v ≡ passed)
@@ -43,12 +43,12 @@ decode-stands p s room vs n m e =
     record { allowed = a.allowed; short = a.fits; encodes = a.octets }
 
 -- an outcome whose answer is accepted
-pub accepted-outcome : (x : ReadOutcome) (counts : Counts) → read_answer x ≡ Accepted counts → (vs : List ℤ) × (n : ℕ) × (x ≡ accept vs n)
+pub accepted-outcome : (x : ReadOutcome) (counts : Counts) → read_answer x ≡ Ok counts → (vs : List ℤ) × (n : ℕ) × (x ≡ accept vs n)
 accepted-outcome (accept vs n) counts e = (vs, n, refl)
 accepted-outcome (refuse refusal) counts e = let z : ◌≡◌ {A = ℕ} 0 1 = cc in absurd (omega arith)
 
 -- the list that an accepted reading gives: so many values of the slice
-pub given : (room : ℕ) (x : ReadOutcome) (c : Counts) → read_answer x ≡ Accepted c → (vs : List ℤ) (n : ℕ) → x ≡ accept vs n → take c.values (values_after room x) ≡ vs
+pub given : (room : ℕ) (x : ReadOutcome) (c : Counts) → read_answer x ≡ Ok c → (vs : List ℤ) (n : ℕ) → x ≡ accept vs n → take c.values (values_after room x) ≡ vs
 given room x c a vs n e =
     let z : length vs ≡ c.values = cc in
     rw (← z, e) (take-append_seam vs (replicate (room - length vs) (pos 0)))

@@ -11,7 +11,6 @@ use lib.ListN.{length, take, replicate, length-append, length-replicate, length-
 use lib.Seq.{take-append_seam, take-append-add, take_at}
 use Rattle.answer.specs.Numbers.{refusal_at}
 use Rattle.answer.specs.declared.Counts.{Counts}
-use Rattle.answer.specs.declared.Answer.TheVariants.{Accepted}
 use Rattle.values.specs.Values.{list_octets, values_in}
 use Rattle.values.specs.TwosComplement.{Fitting}
 use Rattle.values.proofs.Stores.{length-list_octets, values_in-list_octets}
@@ -31,6 +30,7 @@ use Rattle.encoding.specs.Demand3Octets.{WrittenAs, Demand3Octets}
 use Rattle.items.proofs.Messages.{decode_fits}
 use Rattle.encoding.proofs.Demand3.{stands-decode, decode-stands, accepted-outcome, read-passed, demand3}
 use Rattle.encoding.proofs.Fitting.{fitting}
+use Rattle.std.proofs.Common.{Ok}
 
 -- a list that fits a slice of whole eights fits the slice
 length-packed : (size : ℕ) (vs : List ℤ) → length vs ≤ size / 8 → length (filled 0 size (list_octets vs)) ≡ size
@@ -54,7 +54,7 @@ front size vs more =
     ∙ take-append-add (list_octets vs) (replicate (size - length (list_octets vs)) 0) more
 
 -- the octets that an accepted reading gives
-given-octets : (size : ℕ) (x : ReadOutcome) (c : Counts) → read_answer x ≡ Accepted c → (vs : List ℤ) (n : ℕ) → x ≡ accept vs n → take (8 * c.values) (packed_after size x) ≡ list_octets vs
+given-octets : (size : ℕ) (x : ReadOutcome) (c : Counts) → read_answer x ≡ Ok c → (vs : List ℤ) (n : ℕ) → x ≡ accept vs n → take (8 * c.values) (packed_after size x) ≡ list_octets vs
 given-octets size x c a vs n e =
     let z : length vs ≡ c.values = cc in
     rw (← z, e) (take_at (list_octets vs) (replicate (size - length (list_octets vs)) 0) (8 * length vs) (length-list_octets vs))

@@ -1,6 +1,6 @@
 -- What the calls answer. Their contracts cite these names, and for the lent slice those of items' specs/Slices.antt.
 use Rattle.std.specs.Prelude.{ℕ, List, ℤ}
-use Rattle.answer.specs.declared.Answer.{Answer}
+use Rattle.answer.specs.Numbers.{Answer}
 use Rattle.items.specs.Reading.{read_answer}
 use Rattle.encoding.specs.Reading.{read_outcome}
 use Rattle.items.specs.Writing.{write_answer}

@@ -3,11 +3,10 @@
 -- specs/Items.antt; asks, in specs/Rows.antt), of their encoding (items' specs/Encoding.antt), and of what the contracts of check,
 -- read and write name (checked and verdict in table's specs/Verdict.antt; read_call and write_call in specs/Calls.antt; values_after
 -- and output_after in items' specs/Slices.antt).
-use Rattle.std.specs.Prelude.{ℕ, ◌≤◌, ◌<◌, ◌≡◌, ◌↔◌, List, ℤ, pos, length, get_or, take}
+use Rattle.std.specs.Prelude.{ℕ, ◌≤◌, ◌<◌, ◌≡◌, ◌↔◌, List, ℤ, pos, length, get_or, take, Ok}
 use Rattle.bits.specs.Access.{most_octets}
 use Rattle.answer.specs.Numbers.{accepted}
 use Rattle.answer.specs.declared.Counts.{Counts}
-use Rattle.answer.specs.declared.Answer.TheVariants.{Accepted}
 use Rattle.rules.specs.Rules.{Obeys}
 use Rattle.table.specs.Verdict.{verdict, checked}
 use Rattle.items.specs.Items.{Items, Allows, encoding_bits}
@@ -38,7 +37,7 @@ pub record Demand3 (t : List ℕ) : Type 1 where
   pub checks : (checked (verdict t) ≡ accepted 0 0 0) ↔ Obeys t
   -- under a passed table, reading accepts exactly when some such list stands for the octets
   pub accepts : Obeys t → (s : List ℕ) → Message s → (room : ℕ)
-      → ((counts : Counts) × (read_call t s room ≡ Accepted counts)) ↔ ((vs : List ℤ) × Stands (asks t) s room vs)
+      → ((counts : Counts) × (read_call t s room ≡ Ok counts)) ↔ ((vs : List ℤ) × Stands (asks t) s room vs)
   -- there is only one such list
   pub one : (s : List ℕ) (room : ℕ) (vs ws : List ℤ) → Stands (asks t) s room vs → Stands (asks t) s room ws → vs ≡ ws
   -- it comes back, followed by zeros, with its length and its bits as counts
@@ -49,6 +48,6 @@ pub record Demand3 (t : List ℕ) : Type 1 where
       → (write_call t vs cap ≡ accepted 0 0 (length s)) × (output_after cap (write_outcome t vs cap) ≡ filled 0 cap s)
   -- two different messages that are accepted never give the same list, whatever slices they were read into
   pub apart : Obeys t → (s s' : List ℕ) → Message s → Message s' → (room room' : ℕ) (c c' : Counts)
-      → read_call t s room ≡ Accepted c → read_call t s' room' ≡ Accepted c'
+      → read_call t s room ≡ Ok c → read_call t s' room' ≡ Ok c'
       → take c.values (values_after room (read_outcome t s room)) ≡ take c'.values (values_after room' (read_outcome t s' room'))
       → s ≡ s'

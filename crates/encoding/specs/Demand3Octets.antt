@@ -2,10 +2,9 @@
 -- It speaks of what the contracts of read_packed and write_packed, and of the exported calls, name: read_call with room for the
 -- whole eights of a slice, packed_after, and write_call with the values that octets hold (values_in). What the eight octets of a
 -- value are is TwosComplement, in values' specs/TwosComplement.antt. The proof is proofs/Demand3Octets.antt.
-use Rattle.std.specs.Prelude.{ℕ, ◌+◌, ◌*◌, ◌/◌, ◌≤◌, ◌<◌, ◌≡◌, ◌↔◌, List, ◌++◌, ℤ, length, take}
+use Rattle.std.specs.Prelude.{ℕ, ◌+◌, ◌*◌, ◌/◌, ◌≤◌, ◌<◌, ◌≡◌, ◌↔◌, List, ◌++◌, ℤ, length, take, Ok}
 use Rattle.answer.specs.Numbers.{accepted}
 use Rattle.answer.specs.declared.Counts.{Counts}
-use Rattle.answer.specs.declared.Answer.TheVariants.{Accepted}
 use Rattle.values.specs.Values.{list_octets, values_in}
 use Rattle.values.specs.TwosComplement.{Fitting}
 use Rattle.rules.specs.Rules.{Obeys}
@@ -27,7 +26,7 @@ pub record Demand3Octets (t : List ℕ) : Type 1 where
   pub fits : (vs : List ℤ) → Allows (asks t) vs → Fitting vs
   -- reading into a slice of any size accepts exactly when some allowed list, no longer than its whole eights, stands for the octets
   pub accepts : Obeys t → (s : List ℕ) → Message s → (size : ℕ)
-      → ((counts : Counts) × (read_call t s (size / 8) ≡ Accepted counts)) ↔ ((vs : List ℤ) × Stands (asks t) s (size / 8) vs)
+      → ((counts : Counts) × (read_call t s (size / 8) ≡ Ok counts)) ↔ ((vs : List ℤ) × Stands (asks t) s (size / 8) vs)
   -- it comes back, eight octets for each value, then zeros, with its length and its bits as counts
   pub comes : Obeys t → (s : List ℕ) → Message s → (size : ℕ) (vs : List ℤ) → Stands (asks t) s (size / 8) vs
       → (read_call t s (size / 8) ≡ accepted (length vs) (length (encoding_bits (asks t) vs)) 0) × (packed_after size (read_outcome t s (size / 8)) ≡ filled 0 size (list_octets vs))
@@ -46,6 +45,6 @@ pub record Demand3Octets (t : List ℕ) : Type 1 where
   -- two different messages that are accepted never give the same octets, as many as the counts told say, whatever slices they were
   -- read into
   pub apart : Obeys t → (s s' : List ℕ) → Message s → Message s' → (size size' : ℕ) (c c' : Counts)
-      → read_call t s (size / 8) ≡ Accepted c → read_call t s' (size' / 8) ≡ Accepted c'
+      → read_call t s (size / 8) ≡ Ok c → read_call t s' (size' / 8) ≡ Ok c'
       → take (8 * c.values) (packed_after size (read_outcome t s (size / 8))) ≡ take (8 * c'.values) (packed_after size' (read_outcome t s' (size' / 8)))
       → s ≡ s'

@@ -2,7 +2,7 @@
 -- their order; and what is stored where the searches say is the list after the step.
 use Prim.Native.Nat.{ℕ}
 use native.Mathlib.Nat.{le_refl}
-use mathlib.Core.Bool.{Bool, true, false, not}
+use mathlib.Core.Bool.{Bool, true, false, not, cond}
 use mathlib.Core.List.{List}
 use mathlib.Core.Path.{◌≡◌, refl, sym, ◌∙◌, ap, subst}
 use lib.Dec.{leb, ltb, eqb}
@@ -10,20 +10,18 @@ use lib.ListN.{length, set}
 use lib.Seq.{set_out}
 use borrow.Author.Tests.{leb-true}
 use Rattle.bits.specs.declared.OctetSize.{OctetSize}
-use Rattle.answer.specs.Numbers.{refusal_at, accepted, answer_if}
+use Rattle.answer.specs.Numbers.{refusal_at, accepted, answer_if, Answer}
 use Rattle.answer.specs.declared.Refusal.{Refusal}
-use Rattle.answer.specs.declared.Answer.{Answer}
-use Rattle.answer.specs.declared.Answer.TheVariants.{Accepted, Refused as RefusedBy}
 use Rattle.seen.specs.declared.Seen.{Seen}
 use Rattle.seen.specs.Records.{holds, first_with, first_free, record_of}
 use Rattle.seen.specs.Search.{wanted_by}
+use Rattle.seen.specs.declared.Sought.TheVariants.{Free, Any}
 use Rattle.seen.proofs.Searches.{not_held}
 use Rattle.forward.specs.Forward.{subtype, version, message_id, hop_count, forward_answer, seen_by, seen_after}
-use Rattle.forward.specs.Parts.{head_if, head_of, ask_of, step_if, chosen, step_of, kept_by, Emits}
-use Rattle.forward.specs.declared.Head.{Head}
-use Rattle.forward.specs.declared.Head.TheVariants.{Id}
+use Rattle.forward.specs.Parts.{head_if, head_of, ask_of, step_if, chosen, step_of, kept_by, Emits, Head}
 use Rattle.forward.specs.declared.Ask.{Ask}
 use Rattle.forward.specs.declared.Step.{Step}
+use Rattle.std.proofs.Common.{Ok, Err}
 
 -- ── the tests by the list ──
 
@@ -43,8 +41,8 @@ module _ (t : ℕ) (octets : OctetSize) (fits : Bool) (rs : List Seen) where
   rest = answer_if (ltb (first_free t rs) (length rs)) (refusal_at 42 0) (answer_if fits (refusal_at 8 0) (accepted 0 0 octets.0))
 
   abbrev by : ℕ → Answer → List Seen
-  by id (Accepted c) = set rs (first_free t rs) (record_of id t)
-  by id (RefusedBy r) = rs
+  by id (Ok c) = set rs (first_free t rs) (record_of id t)
+  by id (Err r) = rs
 
   module _ (id : ℕ) where
     -- what is decided under a test is its answer under it; and stores nothing, where it refuses
@@ -67,7 +65,7 @@ module _ (t : ℕ) (octets : OctetSize) (fits : Bool) (rs : List Seen) where
 
     -- what is decided by whether the search for the ID ran to the end
     abbrev free_with : Bool → ℕ
-    free_with b = first_with (wanted_by (record { id = 0; time = t; held = false; free = b })) rs
+    free_with b = first_with (wanted_by (record { time = t; sought = cond b Free Any })) rs
 
     abbrev step_with : Bool → Step
     step_with b =
@@ -82,14 +80,14 @@ module _ (t : ℕ) (octets : OctetSize) (fits : Bool) (rs : List Seen) where
     good_with true = good_if (ltb (first_free t rs) (length rs)) (refusal_at 42 0) then (good_if fits (refusal_at 8 0) last refl)
     good_with false = set_out rs (length rs) (record_of id t) (le_refl (length rs))
 
-    step_is : step_of (asks (Id id)) rs ≡ step_with (not (holds id t rs))
+    step_is : step_of (asks (Ok id)) rs ≡ step_with (not (holds id t rs))
     unfolding step_of chosen
     step_is = ap step_with (not_held id t rs)
 
-    answer_by : answer_of (Id id) ≡ answer_if (not (holds id t rs)) (refusal_at 41 8) rest
+    answer_by : answer_of (Ok id) ≡ answer_if (not (holds id t rs)) (refusal_at 41 8) rest
     answer_by = ap (λ (x : Step). x.answer) step_is ∙ answer_with (not (holds id t rs))
 
-    list_by : list_of (Id id) ≡ by id (answer_of (Id id))
+    list_by : list_of (Ok id) ≡ by id (answer_of (Ok id))
     list_by = subst Good (sym step_is) (good_with (not (holds id t rs)))
 
   -- under a test of the head alone
@@ -137,8 +135,8 @@ module _ (m : List ℕ) (t : ℕ) (rs : List Seen) (cap : ℕ) where
       ∙ ap (λ (x : Answer). seen_by x m t rs) together
     where
       by_seen : {zs : List Seen} (x : Answer) → zs ≡ by t size fit rs (message_id m) x → zs ≡ seen_by x m t rs
-      by_seen (Accepted c) e = e
-      by_seen (RefusedBy r) e = e
+      by_seen (Ok c) e = e
+      by_seen (Err r) e = e
 
   -- so for whoever asks as the message does
   module _ {a : Ask} (e : a ≡ ask_of m t cap) where

@@ -1,11 +1,9 @@
 -- The N-hop forwarding step (document 02, ticket 7): its answer, the list of seen records after it, and its output, for every message,
 -- time, list and output. A list of records and when one is live: seen's specs/Records.antt.
-use Rattle.std.specs.Prelude.{ℕ, ◌-◌, not, List, [], ◌++◌, leb, ltb, eqb, length, take, drop, set}
+use Rattle.std.specs.Prelude.{ℕ, ◌-◌, not, List, [], ◌++◌, leb, ltb, eqb, length, take, drop, set, Ok, Err}
 use Rattle.bits.specs.Bits.{number_of, bits_of, unpack, pack}
 use Rattle.bits.specs.Access.{most_octets}
-use Rattle.answer.specs.Numbers.{message_ends, no_room, wrong_version, wrong_subtype, too_long, no_hops, id_seen, no_record, refusal_at, accepted, answer_if}
-use Rattle.answer.specs.declared.Answer.{Answer}
-use Rattle.answer.specs.declared.Answer.TheVariants.{Accepted, Refused}
+use Rattle.answer.specs.Numbers.{message_ends, no_room, wrong_version, wrong_subtype, too_long, no_hops, id_seen, no_record, refusal_at, accepted, answer_if, Answer}
 use Rattle.items.specs.Slices.{filled}
 use Rattle.seen.specs.declared.Seen.{Seen}
 use Rattle.seen.specs.Records.{holds, first_free, record_of}
@@ -52,13 +50,13 @@ lowered m = pack (length m) (take 30 (unpack m) ++ (bits_of 2 (hop_count m - 1) 
 
 -- accepted, the ID stands in the first record that wasn't live, with the time and in use; refused, the list is as it was
 abbrev pub seen_by : Answer → List ℕ → ℕ → List Seen → List Seen
-seen_by (Accepted c) m t rs = set rs (first_free t rs) (record_of (message_id m) t)
-seen_by (Refused r) m t rs = rs
+seen_by (Ok c) m t rs = set rs (first_free t rs) (record_of (message_id m) t)
+seen_by (Err r) m t rs = rs
 
 -- accepted, the message with its hop count one lower, and zeros after it; refused, zeros
 abbrev pub output_by : Answer → List ℕ → ℕ → List ℕ
-output_by (Accepted c) m cap = filled 0 cap (lowered m)
-output_by (Refused r) m cap = filled 0 cap []
+output_by (Ok c) m cap = filled 0 cap (lowered m)
+output_by (Err r) m cap = filled 0 cap []
 
 -- the list after a call
 abbrev pub seen_after : List ℕ → ℕ → List Seen → ℕ → List Seen

@@ -4,33 +4,26 @@
 #![tactic(auto)]
 
 ghost use Rattle.std.specs.Prelude.{◌≡◌, ◌≤◌, ◌<◌, length};
-ghost use Rattle.answer.specs.Numbers.{refusal_at};
+ghost use Rattle.answer.specs.Numbers.{reason_number, refusal_at};
 ghost use Rattle.items.specs.Slices.{filled};
 ghost use Rattle.forward.specs.Forward.{subtype, version, message_id, hop_count, lowered, output_by};
 ghost use Rattle.forward.specs.Parts.{refused_head, head_of, ask_of, wants_id, wants_free, stays, chosen, decided, stored_by, Emits};
 
-use answer::{Answer, Refusal};
+use answer::{Answer, Counts, Reason, Refusal};
 use bits::{BitPlace, OctetSize};
-use seen::{Seen, Want};
-
-// What a message asks of the list: nothing, for it is refused before; or whether it may go on under its ID.
-#[derive(Clone, Copy)]
-pub enum Head {
-    Refused(Refusal),
-    Id(u32),
-}
+use seen::{Seen, Sought, Want};
 
 // What a call asks of the list: the head of its message, the time, the message's octets, and whether the output has room for them.
-#[derive(Clone, Copy)]
+#[derive(Clone, Copy, Debug, PartialEq, Eq)]
 pub struct Ask {
-    pub head: Head,
+    pub head: Result<u32, Refusal>,
     pub time: u32,
     pub octets: OctetSize,
     pub fits: bool,
 }
 
 // What a call does: its answer, and the index of the record that it stores into. An index past the end is none.
-#[derive(Clone, Copy)]
+#[derive(Clone, Copy, Debug, PartialEq, Eq)]
 pub struct Step {
     pub at: usize,
     pub answer: Answer,
@@ -43,16 +36,10 @@ const VERSION: u32 = 3;
 
 const N_HOP: u32 = 2;
 
-fn wide(octet: u8) -> u32
-    ensures { (result ≡ octet) × (result < 256) }
+fn refused(reason: Reason, place: usize) -> Result<u32, Refusal>
+    ensures { result ≡ refused_head (refusal_at (reason_number reason) place) }
 {
-    octet as u32
-}
-
-fn refused(number: u32, place: usize) -> Head
-    ensures { result ≡ refused_head (refusal_at number place) }
-{
-    Head::Refused(Refusal::new(number, place))
+    Err(Refusal::new(reason, place))
 }
 
 // The fields of a head, out of its whole octets.
@@ -60,50 +47,50 @@ fn version_of(message: &[u8]) -> u32
     requires { 4 ≤ length message.now }
     ensures { result ≡ version message.now }
 {
-    wide(message[0]) % 8
+    u32::from(message[0]) % 8
 }
 
 fn subtype_of(message: &[u8]) -> u32
     requires { 4 ≤ length message.now }
     ensures { result ≡ subtype message.now }
 {
-    wide(message[0]) / 16
+    u32::from(message[0]) / 16
 }
 
 fn hops_of(message: &[u8]) -> u32
     requires { 4 ≤ length message.now }
     ensures { result ≡ hop_count message.now }
 {
-    wide(message[3]) % 4
+    u32::from(message[3]) % 4
 }
 
 fn id_of(message: &[u8]) -> u32
     requires { 4 ≤ length message.now }
     ensures { result ≡ message_id message.now }
 {
-    wide(message[1]) * 16384 + wide(message[2]) * 64 + wide(message[3]) / 4
+    u32::from(message[1]) * 16384 + u32::from(message[2]) * 64 + u32::from(message[3]) / 4
 }
 
 // The tests that need no list, in their order: 13, 2, 10, 11 and 40.
-pub fn head_of(message: &[u8]) -> Head
+pub fn head_of(message: &[u8]) -> Result<u32, Refusal>
     ensures { result ≡ head_of message.now }
 {
     if OctetSize::MOST < message.len() {
-        return refused(Refusal::TOO_LONG, 0);
+        return refused(Reason::TooLong, 0);
     }
     if message.len() < HEAD {
-        return refused(Refusal::MESSAGE_ENDS, 0);
+        return refused(Reason::MessageEnds, 0);
     }
     if version_of(message) != VERSION {
-        return refused(Refusal::WRONG_VERSION, 5);
+        return refused(Reason::WrongVersion, 5);
     }
     if subtype_of(message) != N_HOP {
-        return refused(Refusal::WRONG_SUBTYPE, 0);
+        return refused(Reason::WrongSubtype, 0);
     }
     if hops_of(message) == 0 {
-        return refused(Refusal::NO_HOPS, 30);
+        return refused(Reason::NoHops, 30);
     }
-    Head::Id(id_of(message))
+    Ok(id_of(message))
 }
 
 // What a call asks, with an output of so many octets.
@@ -122,15 +109,12 @@ pub fn asked(message: &[u8], time: u32, room: usize) -> Ask
 pub fn by_id(ask: Ask) -> Want
     ensures { result ≡ wants_id ask.head ask.time }
 {
-    let head = ask.head;
-    let Head::Id(id) = head else {
+    let Ok(id) = ask.head else {
         return Want::any(ask.time);
     };
     Want {
-        id,
         time: ask.time,
-        held: true,
-        free: false,
+        sought: Sought::Id(id),
     }
 }
 
@@ -139,24 +123,26 @@ pub fn by_id(ask: Ask) -> Want
 pub fn by_free(ask: Ask, held: usize, count: usize) -> Want
     ensures { result ≡ wants_free ask.head ask.time held count }
 {
-    let head = ask.head;
-    let Head::Id(_) = head else {
+    if ask.head.is_err() {
         return Want::any(ask.time);
+    }
+    let sought = if count <= held {
+        Sought::Free
+    } else {
+        Sought::Any
     };
     Want {
-        id: 0,
         time: ask.time,
-        held: false,
-        free: count <= held,
+        sought,
     }
 }
 
-fn stay(count: usize, number: u32, place: usize) -> Step
-    ensures { result ≡ stays count (refusal_at number place) }
+fn stay(count: usize, reason: Reason, place: usize) -> Step
+    ensures { result ≡ stays count (refusal_at (reason_number reason) place) }
 {
     Step {
         at: count,
-        answer: Answer::refused(number, place),
+        answer: Err(Refusal::new(reason, place)),
     }
 }
 
@@ -165,17 +151,17 @@ fn choose(octets: OctetSize, fits: bool, held: usize, free: usize, count: usize)
     ensures { result ≡ chosen octets fits held free count }
 {
     if held < count {
-        return stay(count, Refusal::SEEN, 8);
+        return stay(count, Reason::Seen, 8);
     }
     if count <= free {
-        return stay(count, Refusal::NO_RECORD, 0);
+        return stay(count, Reason::NoRecord, 0);
     }
     if !fits {
-        return stay(count, Refusal::NO_ROOM, 0);
+        return stay(count, Reason::NoRoom, 0);
     }
     Step {
         at: free,
-        answer: Answer::accepted(0, BitPlace(0), octets),
+        answer: Ok(Counts::new(0, BitPlace(0), octets)),
     }
 }
 
@@ -183,13 +169,12 @@ fn choose(octets: OctetSize, fits: bool, held: usize, free: usize, count: usize)
 pub fn decide(ask: Ask, held: usize, free: usize, count: usize) -> Step
     ensures { result ≡ decided ask.head ask.octets ask.fits held free count }
 {
-    let head = ask.head;
-    let Head::Refused(refusal) = head else {
-        return choose(ask.octets, ask.fits, held, free, count);
-    };
-    Step {
-        at: count,
-        answer: Answer::Refused(refusal),
+    match ask.head {
+        Ok(_) => choose(ask.octets, ask.fits, held, free, count),
+        Err(refusal) => Step {
+            at: count,
+            answer: Err(refusal),
+        },
     }
 }
 
@@ -197,11 +182,7 @@ pub fn decide(ask: Ask, held: usize, free: usize, count: usize) -> Step
 pub fn stored(ask: Ask) -> Seen
     ensures { result ≡ stored_by ask.head ask.time }
 {
-    let head = ask.head;
-    let Head::Id(id) = head else {
-        return Seen::stored(0, ask.time);
-    };
-    Seen::stored(id, ask.time)
+    Seen::stored(ask.head.unwrap_or(0), ask.time)
 }
 
 // The message with its hop count one lower, and zeros to the output's end. The hop count is the lowest two bits of an octet, and not 0:
@@ -211,19 +192,17 @@ fn lower(message: &[u8], output: &mut [u8])
     ensures { output.new ≡ filled 0 (length output.old) (lowered message.now) }
 {
     values::copy_octets(output, 0, message);
-    values::clear_octets(output, message.len());
+    values::clear(output, message.len(), 0);
     output[3] = message[3] - 1;
 }
 
-// The output of an answer, which is told again.
-pub fn emit(message: &[u8], answer: Answer, output: &mut [u8]) -> Answer
+// The output of an answer.
+pub fn emit(message: &[u8], answer: Answer, output: &mut [u8])
     requires { Emits answer message.now (length output.old) }
-    ensures { (result ≡ answer) × (output.new ≡ output_by answer message.now (length output.old)) }
+    ensures { output.new ≡ output_by answer message.now (length output.old) }
 {
-    let Answer::Accepted(_) = answer else {
-        values::clear_octets(output, 0);
-        return answer;
-    };
-    lower(message, output);
-    answer
+    match answer {
+        Ok(_) => lower(message, output),
+        Err(_) => output.fill(0),
+    }
 }

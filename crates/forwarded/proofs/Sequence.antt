@@ -9,9 +9,7 @@ use lib.Dec.{ltb}
 use lib.ListN.{length, length-set}
 use lib.Seq.{get_or-set_other}
 use borrow.Author.Tests.{le-leb, eq-eqb, ltb-true, ltb-false}
-use Rattle.answer.specs.Numbers.{refused, accepted}
-use Rattle.answer.specs.declared.Answer.{Answer}
-use Rattle.answer.specs.declared.Answer.TheVariants.{Accepted, Refused}
+use Rattle.answer.specs.Numbers.{refused, accepted, Answer}
 use Rattle.seen.specs.declared.Seen.{Seen}
 use Rattle.seen.specs.Records.{holds, first_free, record_of, blank}
 use Rattle.forward.specs.Forward.{version, subtype, message_id, hop_count, forward_answer, seen_by}
@@ -19,21 +17,22 @@ use Rattle.forwarded.specs.Steps.{Near, Live, at, Heads}
 use Rattle.forwarded.specs.Sequence.{Call, answer_to, after_call, after, Until, refused_for, AnySequence}
 use Rattle.forwarded.proofs.Records.{is_live, holds_at}
 use Rattle.forwarded.proofs.Steps.{free_not_live, steps}
+use Rattle.std.proofs.Common.{Ok, Err}
 
 -- whatever is answered, a live record stays
 keeps_by : (rs : List Seen) (t : ℕ) (m : List ℕ) (x : Answer) (i : ℕ) → i < length rs → Live t (at rs i) → at (seen_by x m t rs) i ≡ at rs i
-keeps_by rs t m (Accepted c) i l live = get_or-set_other rs (first_free t rs) i (record_of (message_id m) t) blank other
+keeps_by rs t m (Ok c) i l live = get_or-set_other rs (first_free t rs) i (record_of (message_id m) t) blank other
   where
     other : i ≢ first_free t rs
     other e = free_not_live t rs (subst (λ (k : ℕ). k < length rs) e l) (subst (λ (k : ℕ). Live t (at rs k)) e live)
-keeps_by rs t m (Refused r) i l live = refl
+keeps_by rs t m (Err r) i l live = refl
 
 keeps : (rs : List Seen) (c : Call) (i : ℕ) → i < length rs → Live c.time (at rs i) → at (after_call rs c) i ≡ at rs i
 keeps rs c i l live = keeps_by rs c.time c.message (answer_to rs c) i l live
 
 counts_by : (rs : List Seen) (t : ℕ) (m : List ℕ) (x : Answer) → length (seen_by x m t rs) ≡ length rs
-counts_by rs t m (Accepted c) = length-set rs (first_free t rs) (record_of (message_id m) t)
-counts_by rs t m (Refused r) = refl
+counts_by rs t m (Ok c) = length-set rs (first_free t rs) (record_of (message_id m) t)
+counts_by rs t m (Err r) = refl
 
 counts_one : (rs : List Seen) (c : Call) → length (after_call rs c) ≡ length rs
 counts_one rs c = counts_by rs c.time c.message (answer_to rs c)

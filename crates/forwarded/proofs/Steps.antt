@@ -12,15 +12,14 @@ use borrow.Author.Tests.{leb-true, leb-false, ltb-true, ltb-false, eqb-true, le-
 use Rattle.bits.specs.Bits.{number_of, bits_of, unpack, pack}
 use Rattle.bits.proofs.Bits.{length-bits_of, length-unpack, unpack-append, length-pack, unpack-pack, pack-octets, number_of-bits_of, number_of-take_lt}
 use Rattle.bits.proofs.Splice.{spliced, length-spliced, take-spliced, part_spliced, part-append}
-use Rattle.answer.specs.Numbers.{refusal_at, accepted}
-use Rattle.answer.specs.declared.Answer.{Answer}
-use Rattle.answer.specs.declared.Answer.TheVariants.{Accepted, Refused}
+use Rattle.answer.specs.Numbers.{refusal_at, accepted, Answer}
 use Rattle.answer.proofs.Numbers.{answer_if-accepted}
 use Rattle.seen.specs.declared.Seen.{Seen}
 use Rattle.seen.specs.Records.{live_at, holds, first_free, record_of, blank}
 use Rattle.forward.specs.Forward.{field, version, subtype, message_id, hop_count, lowered, forward_answer, seen_by, seen_after, output_by}
 use Rattle.forwarded.specs.Steps.{Live, at, Passes, Stored, Steps}
 use Rattle.forwarded.proofs.Records.{live_is, is_live, not_live, live_not, first_passes, before_first, some_first, holds_at, holds_from}
+use Rattle.std.proofs.Common.{Ok, Err}
 
 -- ── the list ──
 
@@ -128,8 +127,8 @@ module _ (m n : List ℕ) (e : take 4 m ≡ take 4 n) (l : length m ≡ length n
   same_list t rs cap = ap (λ (x : Answer). seen_by x m t rs) (same_answer t rs cap) ∙ go (forward_answer n t rs cap)
     where
       go : (x : Answer) → seen_by x m t rs ≡ seen_by x n t rs
-      go (Accepted c) = ap (λ (id : ℕ). set rs (first_free t rs) (record_of id t)) same_id
-      go (Refused r) = refl
+      go (Ok c) = ap (λ (id : ℕ). set rs (first_free t rs) (record_of id t)) same_id
+      go (Err r) = refl
 
 -- ── what changes in a message ──
 

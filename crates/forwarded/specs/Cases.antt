@@ -1,8 +1,7 @@
 -- The corners of document 02's ticket 7, and of the points that it leaves open (docs/DECISIONS.md, "Forwarding"), as one list of calls. That the definitions give
 -- each its answer, its list and its output is `ForwardingCases`; the proof, by computation, is proofs/Cases.antt.
 use Rattle.std.specs.Prelude.{ℕ, true, false, ◌≡◌, List, [], ◌∷◌, map}
-use Rattle.answer.specs.Numbers.{accepted, refused}
-use Rattle.answer.specs.declared.Answer.{Answer}
+use Rattle.answer.specs.Numbers.{accepted, refused, Answer}
 use Rattle.seen.specs.declared.Seen.{Seen}
 use Rattle.forward.specs.Forward.{forward_output}
 use Rattle.forwarded.specs.Sequence.{Call, answer_to, after_call}

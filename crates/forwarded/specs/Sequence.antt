@@ -1,8 +1,7 @@
 -- Any sequence of calls over one list of seen records (document 02, ticket 7): a live record is never overwritten, so an ID that was
 -- forwarded is refused for the next 4,999 milliseconds. The proof, by induction over the calls, is proofs/Sequence.antt.
 use Rattle.std.specs.Prelude.{ℕ, ◌+◌, ◌≤◌, ◌<◌, ◌≡◌, List, [], ◌∷◌, length}
-use Rattle.answer.specs.Numbers.{refused, accepted, id_seen}
-use Rattle.answer.specs.declared.Answer.{Answer}
+use Rattle.answer.specs.Numbers.{refused, accepted, id_seen, Answer}
 use Rattle.seen.specs.declared.Seen.{Seen}
 use Rattle.forward.specs.Forward.{message_id, forward_answer, seen_after}
 use Rattle.forwarded.specs.Steps.{Live, at, Heads}

@@ -1,12 +1,11 @@
 -- What one forwarding step comes to, in propositions, held against the definitions that the contracts cite (forward's
 -- specs/Forward.antt, seen's specs/Records.antt): which messages go on, what changes in one, and what changes in the list.
 -- The proof is proofs/Steps.antt.
-use Rattle.std.specs.Prelude.{ℕ, ◌+◌, ◌≤◌, ◌<◌, true, false, ◌≢◌, ◌↔◌, ◌⊎◌, ◌≡◌, List, [], length, get_or, take}
+use Rattle.std.specs.Prelude.{ℕ, ◌+◌, ◌≤◌, ◌<◌, true, false, ◌≢◌, ◌↔◌, ◌⊎◌, ◌≡◌, List, [], length, get_or, take, Err}
 use Rattle.bits.specs.Bits.{unpack}
 use Rattle.bits.specs.Access.{most_octets}
 use Rattle.answer.specs.Numbers.{accepted}
 use Rattle.answer.specs.declared.Refusal.{Refusal}
-use Rattle.answer.specs.declared.Answer.TheVariants.{Refused}
 use Rattle.items.specs.Slices.{filled}
 use Rattle.seen.specs.declared.Seen.{Seen}
 use Rattle.seen.specs.Records.{record_of, blank}
@@ -69,4 +68,4 @@ pub record Steps : Type 0 where
   pub lowers : (m : List ℕ) → 4 ≤ length m → 1 ≤ hop_count m → OneLower m
   pub stores : (m : List ℕ) (t : ℕ) (rs : List Seen) (cap : ℕ) → Passes m t rs cap → Stored (message_id m) t rs (seen_after m t rs cap)
   -- a refusal changes no record and leaves zeros
-  pub refuses : (m : List ℕ) (t : ℕ) (rs : List Seen) (cap : ℕ) (r : Refusal) → forward_answer m t rs cap ≡ Refused r → (seen_after m t rs cap ≡ rs) × (forward_output m t rs cap ≡ filled 0 cap [])
+  pub refuses : (m : List ℕ) (t : ℕ) (rs : List Seen) (cap : ℕ) (r : Refusal) → forward_answer m t rs cap ≡ Err r → (seen_after m t rs cap ≡ rs) × (forward_output m t rs cap ≡ filled 0 cap [])

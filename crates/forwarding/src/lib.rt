@@ -35,23 +35,23 @@ pub fn forward(message: &[u8], time: u32, seen: &mut [Seen], output: &mut [u8]) 
 {
     let ask = forward::asked(message, time, output.len());
     let answer = remember(seen, ask);
-    forward::emit(message, answer, output)
+    forward::emit(message, answer, output);
+    answer
 }
 
 // A list of 64 records and the answer of a call on it.
-#[derive(Clone, Copy)]
+#[derive(Clone, Copy, Debug, PartialEq, Eq)]
 pub struct Forwarded {
     pub seen: [Seen; 64],
     pub answer: Answer,
 }
 
 // `remember` on a list that is handed over and given back. Whoever calls this one lends no slice of records.
-fn remember_in(seen: [Seen; 64], ask: Ask) -> Forwarded
+fn remember_in(mut seen: [Seen; 64], ask: Ask) -> Forwarded
     ensures { result ≡ taken_in ask seen }
 {
-    let mut list = seen;
-    let answer = remember(&mut list, ask);
-    Forwarded { seen: list, answer }
+    let answer = remember(&mut seen, ask);
+    Forwarded { seen, answer }
 }
 
 // Forwards a message at a time, if nothing refuses it, with a list that is handed over and given back.
@@ -60,7 +60,6 @@ pub fn forward_in(message: &[u8], time: u32, seen: [Seen; 64], output: &mut [u8]
 {
     let ask = forward::asked(message, time, output.len());
     let taken = remember_in(seen, ask);
-    let answer = taken.answer;
-    forward::emit(message, answer, output);
+    forward::emit(message, taken.answer, output);
     taken
 }

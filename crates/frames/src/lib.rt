@@ -42,21 +42,13 @@ fn put_message(out: &mut [u8], at: usize, kind: usize, message: &[u8], values: &
     ensures appended { Appended out.old at (message_line kind message.now (length values.old)) out.new result }
     ensures upper_bound { result ≤ at + 22 * length values.old + 48 }
 {
-    match kind {
-        LM => {
-            let answer = messages::read_lm(message, values);
-            lines::put_answer(out, at, answer, values)
-        }
-        SAM => {
-            let answer = messages::read_sam(message, values);
-            lines::put_answer(out, at, answer, values)
-        }
-        SRM => {
-            let answer = messages::read_srm(message, values);
-            lines::put_answer(out, at, answer, values)
-        }
-        _ => lines::put_line(out, at, b"no kind ", kind as u64),
-    }
+    let answer = match kind {
+        LM => messages::read_lm(message, values),
+        SAM => messages::read_sam(message, values),
+        SRM => messages::read_srm(message, values),
+        _ => return lines::put_line(out, at, b"no kind ", kind as u64),
+    };
+    lines::put_answer(out, at, answer, values)
 }
 
 // The line of a whole frame.
@@ -93,9 +85,9 @@ pub fn put_ended(out: &mut [u8], at: usize, before: Before, left: &[u8]) -> usiz
     ensures appended { Appended out.old at (end_lines before left.now) out.new result }
     ensures upper_bound { result ≤ at + 62 }
 {
-    if 0 < left.len() {
-        put_stopped(out, at, before)
-    } else {
+    if left.is_empty() {
         lines::put_last(out, at, before.units)
+    } else {
+        put_stopped(out, at, before)
     }
 }

@@ -10,7 +10,7 @@ ghost use Rattle.row.specs.Rows.{within, row_at};
 ghost use Rattle.encoding.specs.Guarded.{fits_as, fits, held_depth, leads, opens, enters};
 ghost use Rattle.guard.specs.Readable.{Readable, Tested};
 
-use answer::Refusal;
+use answer::{Reason, Refusal};
 use bits::BitPlace;
 use row::Row;
 
@@ -84,12 +84,10 @@ fn record_opens(state: &[u8], at: usize) -> bool
     ensures { result ≡ opens state.now at (row_at state.now at) }
 {
     let fields = Row::count_at(state, at);
-    let mut field = 0;
-    while field < fields {
+    for field in 0..fields {
         if !leads(state, at, Row::field_at(state, at, field)) {
             return false;
         }
-        field += 1;
     }
     true
 }
@@ -127,7 +125,7 @@ pub fn settled(table: &[u8], at: usize) -> bool
 pub fn unreadable(place: BitPlace) -> Refusal
     ensures { result ≡ refusal_at no_branch place.0 }
 {
-    Refusal::new(Refusal::NO_BRANCH, place.0)
+    Refusal::new(Reason::NoBranch, place.0)
 }
 
 // Whether the row at an offset can be the root: it can be read, and its depth is one that a row may have.

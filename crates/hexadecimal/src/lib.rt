@@ -5,13 +5,14 @@ ghost use Rattle.std.specs.Prelude.{◌+◌, ◌*◌, ◌<◌, ◌≤◌, ◌≡
 ghost use Rattle.lines.specs.Text.{Appended};
 ghost use Rattle.hexadecimal.specs.Hex.{hex_digit, hex};
 
+const DIGITS: &[u8; 16] = b"0123456789ABCDEF";
+
 // A digit.
 fn digit(number: u8) -> u8
     requires { number < 16 }
     ensures { result ≡ hex_digit number }
 {
-    let digits = b"0123456789ABCDEF";
-    digits[number as usize]
+    DIGITS[usize::from(number)]
 }
 
 // The digits of a count of octets, from an index on. The octets stand behind the first half of the room for their digits, so that each is
@@ -21,12 +22,10 @@ pub fn put_hex(out: &mut [u8], at: usize, count: usize) -> usize
     ensures appended { Appended out.old at (hex (take count (drop (at + count) out.old))) out.new result }
     ensures value { result ≡ at + 2 * count }
 {
-    let mut i = 0;
-    while i < count {
+    for i in 0..count {
         let octet = out[at + count + i];
         out[at + 2 * i] = digit(octet / 16);
         out[at + 2 * i + 1] = digit(octet % 16);
-        i += 1;
     }
     at + 2 * count
 }

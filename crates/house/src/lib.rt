@@ -35,11 +35,7 @@ pub fn whole(octets: &[u8]) -> usize
     ensures { (result ≡ whole_frames octets.now) × (result ≤ length octets.now) }
 {
     let mut at = 0;
-    while at < octets.len() {
-        let first = front(&octets[at..]);
-        let Front::Whole(size) = first else {
-            return at;
-        };
+    while let Front::Whole(size) = front(&octets[at..]) {
         at += size;
     }
     at

@@ -5,3 +5,4 @@ pub mod Integers
 pub mod Naturals
 pub mod Ranges
 pub mod Widths
+pub mod Returned

@@ -8,27 +8,9 @@ ghost use Rattle.item.specs.Code.{base, natural};
 ghost use Rattle.item.specs.Answers.{branches_at};
 ghost use Rattle.item.specs.Steps.{leading_worth};
 
-use answer::Refusal;
-use bits::BitPlace;
-
-// What reading an item gives: its value and the place after it, or the refusal.
-#[derive(Clone, Copy)]
-pub enum Item {
-    Value(i64, BitPlace),
-    Bad(Refusal),
-}
-
-// What writing an item gives: the place after it, or the number of the refusal, whose place, the index of its value, the caller
-// knows.
-#[derive(Clone, Copy)]
-pub enum Put {
-    Next(BitPlace),
-    Unfit(u32),
-}
-
 // The form of an item of whole octets, which has ones and a zero in front: its bits in all, what its leading bits are worth,
 // and what is added to the others in a variable number.
-#[derive(Clone, Copy)]
+#[derive(Clone, Copy, Debug, PartialEq, Eq)]
 pub struct Form {
     pub bits: u32,
     pub leading: u32,
@@ -82,7 +64,7 @@ impl Form {
 pub fn width(span: u32) -> u32
     ensures { (result ≡ width span) × (result ≤ 32) }
 {
-    32 - u32::leading_zeros(span)
+    32 - span.leading_zeros()
 }
 
 // Stands in a choice for the reference of a reserved branch.

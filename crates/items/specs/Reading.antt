@@ -1,11 +1,9 @@
 -- The outcome of reading items (document 01, "Refusal numbers"): for every message and every length of value slice, the values
 -- with the bits that they take, or the refusal's number and place. No table is known here.
-use Rattle.std.specs.Prelude.{ℕ, zero, suc, ◌+◌, Bool, true, false, cond, ◌&&◌, List, [], ◌∷◌, ◌++◌, leb, eqb, ℤ, length}
+use Rattle.std.specs.Prelude.{ℕ, zero, suc, ◌+◌, Bool, true, false, cond, ◌&&◌, List, [], ◌∷◌, ◌++◌, leb, eqb, ℤ, length, Err}
 use Rattle.bits.specs.Bits.{unpack}
 use Rattle.bits.specs.Access.{most_octets}
-use Rattle.answer.specs.Numbers.{message_ends, no_room, not_padding, too_long, refusal_at, accepted}
-use Rattle.answer.specs.declared.Answer.{Answer}
-use Rattle.answer.specs.declared.Answer.TheVariants.{Refused}
+use Rattle.answer.specs.Numbers.{message_ends, no_room, not_padding, too_long, refusal_at, accepted, Answer}
 use Rattle.answer.specs.declared.Refusal.{Refusal}
 use Rattle.item.specs.Code.{Got, got, bad, value_bits, decode_item}
 use Rattle.items.specs.Items.{Items, stop, ask}
@@ -63,7 +61,7 @@ read_message p s room = cond (leb (length s) most_octets) (decode p s room) (ref
 
 abbrev pub read_answer : ReadOutcome → Answer
 read_answer (accept vs bits) = accepted (length vs) bits 0
-read_answer (refuse refusal) = Refused refusal
+read_answer (refuse refusal) = Err refusal
 
 -- the values that come back, none after a refusal
 abbrev pub read_values : ReadOutcome → List ℤ

@@ -1,10 +1,8 @@
 -- The outcome of writing items (document 01, "Refusal numbers"): for every list and every length of output, the octets, or the
 -- refusal's number and the index of its value.
-use Rattle.std.specs.Prelude.{ℕ, zero, suc, ◌+◌, ◌-◌, ◌*◌, min, Bool, true, false, List, [], ◌∷◌, ◌++◌, leb, ℤ, length}
+use Rattle.std.specs.Prelude.{ℕ, zero, suc, ◌+◌, ◌-◌, ◌*◌, min, Bool, true, false, List, [], ◌∷◌, ◌++◌, leb, ℤ, length, Err}
 use Rattle.bits.specs.Access.{most_octets}
-use Rattle.answer.specs.Numbers.{no_room, wrong_value, refusal_at, accepted}
-use Rattle.answer.specs.declared.Answer.{Answer}
-use Rattle.answer.specs.declared.Answer.TheVariants.{Refused}
+use Rattle.answer.specs.Numbers.{no_room, wrong_value, refusal_at, accepted, Answer}
 use Rattle.answer.specs.declared.Refusal.{Refusal}
 use Rattle.item.specs.Code.{allows, value_bits}
 use Rattle.items.specs.Items.{Items, stop, ask}
@@ -56,7 +54,7 @@ encode p vs cap = close_write (length vs) cap (write_items p vs (8 * min cap mos
 
 abbrev pub write_answer : WriteOutcome → Answer
 write_answer (written s) = accepted 0 0 (length s)
-write_answer (unwritten refusal) = Refused refusal
+write_answer (unwritten refusal) = Err refusal
 
 -- the octets that come back, none after a refusal
 abbrev pub write_octets : WriteOutcome → List ℕ

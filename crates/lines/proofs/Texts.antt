@@ -1,12 +1,11 @@
 -- Laws of texts put one after another into a slice.
-use Prim.Native.Nat.{ℕ, suc, ◌+◌, ◌<◌}
+use Prim.Native.Nat.{ℕ, suc, ◌<◌}
 use mathlib.Core.Path.{◌≡◌, refl, sym, ap, ◌∙◌}
 use mathlib.Core.List.{List, [], ◌∷◌, ◌++◌, append_assoc, append-nil}
 use native.Mathlib.Nat.{add-zero}
-use native.Mathlib.Numerals.{add-one}
 use native.Mathlib.Omega.{arith}
-use lib.ListN.{length, get_or, take, set, length-append}
-use lib.Seq.{take-suc, take-suc-set}
+use lib.ListN.{length, take, set, length-append}
+use lib.Seq.{take-suc-set}
 use lib.IntN.{ℤ}
 use Rattle.lines.specs.Text.{Appended, signed, listed}
 
@@ -36,7 +35,6 @@ listed-append (u ∷ us) vs =
     ap (λ (x : List ℕ). 32 ∷ (signed u ++ x)) (listed-append us vs) ∙ ap (λ (x : List ℕ). 32 ∷ x) (sym (append_assoc (signed u) (listed us) (listed vs)))
 
 -- one value more
-pub listed_more : (vs : List ℤ) (i : ℕ) (z : ℤ) → i < length vs → listed (take (i + 1) vs) ≡ listed (take i vs) ++ (32 ∷ signed (get_or vs i z))
+pub listed_more : (vs : List ℤ) (v : ℤ) → listed (vs ++ (v ∷ [])) ≡ listed vs ++ (32 ∷ signed v)
 unfolding listed
-listed_more vs i z h =
-    rw (add-one i, take-suc vs i z h, listed-append (take i vs) (get_or vs i z ∷ []), append-nil (signed (get_or vs i z)))
+listed_more vs v = rw (listed-append vs (v ∷ []), append-nil (signed v))

@@ -5,7 +5,7 @@ use mathlib.Core.List.{List}
 use lib.IntN.{ℤ}
 use lib.ListN.{length}
 use lib.Seq.{take-append_seam}
-use Rattle.answer.specs.declared.Answer.{Answer}
+use Rattle.answer.specs.Numbers.{Answer}
 use Rattle.items.specs.Reading.{ReadOutcome, accept, refuse, read_answer}
 use Rattle.items.specs.Slices.{values_after}
 use Rattle.lines.specs.Text.{Appended, accepted_line, answer_line, outcome_line}

@@ -1,8 +1,7 @@
 -- The lines that the programs print (document 01, "The bench program"), as octets: decimal notation, the line of an answer, and the count of frames.
-use Rattle.std.specs.Prelude.{ℕ, zero, suc, ◌+◌, ◌/◌, ◌%◌, cond, ◌≡◌, List, [], ◌∷◌, ◌++◌, ltb, ℤ, pos, negsuc, length, take}
+use Rattle.std.specs.Prelude.{ℕ, zero, suc, ◌+◌, ◌/◌, ◌%◌, cond, ◌≡◌, List, [], ◌∷◌, ◌++◌, ltb, ℤ, pos, negsuc, length, take, Ok, Err}
 use Rattle.answer.specs.declared.Refusal.{Refusal}
-use Rattle.answer.specs.declared.Answer.{Answer}
-use Rattle.answer.specs.declared.Answer.TheVariants.{Accepted, Refused}
+use Rattle.answer.specs.Numbers.{Answer}
 use Rattle.items.specs.Reading.{ReadOutcome, accept, refuse}
 
 -- what putting a text into a slice from an index on leaves: the index after it, up to which the slice has what stood before it,
@@ -48,8 +47,8 @@ refused_line r = placed_line (110 ∷ 111 ∷ 32 ∷ []) r.number r.place
 
 -- the line of an answer, and of what the value slice then holds
 abbrev pub answer_line : Answer → List ℤ → List ℕ
-answer_line (Accepted c) vs = accepted_line c.values (take c.values vs)
-answer_line (Refused r) vs = refused_line r
+answer_line (Ok c) vs = accepted_line c.values (take c.values vs)
+answer_line (Err r) vs = refused_line r
 
 -- the line of an outcome of reading: `ok N: v v v` or `no R at P`
 abbrev pub outcome_line : ReadOutcome → List ℕ

@@ -3,7 +3,7 @@
 // A number takes at most 20 octets, and a value with its space and sign 22.
 #![tactic(auto)]
 
-ghost use Rattle.std.specs.Prelude.{◌+◌, ◌*◌, ◌<◌, ◌≤◌, [], ◌∷◌, ◌≡◌, nat_abs, length, take};
+ghost use Rattle.std.specs.Prelude.{◌+◌, ◌*◌, ◌<◌, ◌≤◌, [], ◌∷◌, ◌≡◌, length, take};
 ghost use Rattle.lines.specs.Text.{Appended, decimal, number_line, placed_line, signed, listed, accepted_line, refused_line, answer_line, last_line};
 
 use answer::{Answer, Refusal};
@@ -13,12 +13,9 @@ pub fn put_text(out: &mut [u8], at: usize, text: &[u8]) -> usize
     requires { at + length text.now ≤ length out.old }
     ensures { Appended out.old at text.now out.new result }
 {
-    let mut i = 0;
-    while i < text.len() {
-        out[at + i] = text[i];
-        i += 1;
-    }
-    at + i
+    let end = at + text.len();
+    out[at..end].copy_from_slice(text);
+    end
 }
 
 // A digit.
@@ -82,17 +79,6 @@ pub fn put_line(out: &mut [u8], at: usize, words: &[u8], number: u64) -> usize
     put_text(out, end, b"\n")
 }
 
-// A value without its sign.
-fn magnitude(value: i64) -> u64
-    ensures { result ≡ nat_abs value }
-{
-    if value < 0 {
-        (-1 - value) as u64 + 1
-    } else {
-        value as u64
-    }
-}
-
 // A value in decimal, with a minus sign where it is negative.
 pub fn put_value(out: &mut [u8], at: usize, value: i64) -> usize
     requires { at + 21 ≤ length out.old }
@@ -101,9 +87,9 @@ pub fn put_value(out: &mut [u8], at: usize, value: i64) -> usize
 {
     if value < 0 {
         let next = put_text(out, at, b"-");
-        put_number(out, next, magnitude(value))
+        put_number(out, next, value.unsigned_abs())
     } else {
-        put_number(out, at, magnitude(value))
+        put_number(out, at, value.unsigned_abs())
     }
 }
 
@@ -124,13 +110,8 @@ fn put_values(out: &mut [u8], at: usize, values: &[i64], count: usize) -> usize
     ensures upper_bound { result ≤ at + 22 * length values.now }
 {
     let mut next = at;
-    let mut i = 0;
-    while i < values.len() {
-        if count <= i {
-            return next;
-        }
-        next = put_item(out, next, values[i]);
-        i += 1;
+    for value in values.iter().take(count) {
+        next = put_item(out, next, *value);
     }
     next
 }
@@ -165,7 +146,13 @@ pub fn put_refusal(out: &mut [u8], at: usize, refusal: Refusal) -> usize
     ensures appended { Appended out.old at (refused_line refusal) out.new result }
     ensures upper_bound { result ≤ at + 48 }
 {
-    put_placed(out, at, b"no ", refusal.number as u64, refusal.place as u64)
+    put_placed(
+        out,
+        at,
+        b"no ",
+        u64::from(refusal.number),
+        refusal.place as u64,
+    )
 }
 
 // The line of an answer to reading into a slice of values.
@@ -175,8 +162,8 @@ pub fn put_answer(out: &mut [u8], at: usize, answer: Answer, values: &[i64]) -> 
     ensures upper_bound { result ≤ at + 22 * length values.now + 48 }
 {
     match answer {
-        Answer::Accepted(counts) => put_accepted(out, at, counts.values, values),
-        Answer::Refused(refusal) => put_refusal(out, at, refusal),
+        Ok(counts) => put_accepted(out, at, counts.values, values),
+        Err(refusal) => put_refusal(out, at, refusal),
     }
 }
 

@@ -5,9 +5,8 @@
 use Rattle.std.specs.Prelude.{ℕ, Bool, true, false, List, leb, eqb, ℤ, pos, length, get_or, take, drop}
 use Rattle.bits.specs.Access.{most_octets}
 use Rattle.bits.specs.Bits.{number_of, unpack}
-use Rattle.answer.specs.Numbers.{message_ends, wrong_version, wrong_subtype, wrong_value, too_long, refusal_at}
+use Rattle.answer.specs.Numbers.{message_ends, wrong_version, wrong_subtype, wrong_value, too_long, refusal_at, Answer}
 use Rattle.answer.specs.declared.Refusal.{Refusal}
-use Rattle.answer.specs.declared.Answer.{Answer}
 use Rattle.item.specs.Code.{of_natural}
 use Rattle.encoding.specs.Rows.{asks}
 use Rattle.items.specs.Reading.{ReadOutcome, refuse, decode, read_answer}

@@ -9,10 +9,10 @@ ghost use Rattle.whole.specs.Sized.{number_sized};
 ghost use Rattle.lm_items.specs.Asked.{octet, field_items};
 ghost use Rattle.lm_items.specs.declared.Kind.TheVariants.{InternalForwarding, NHopForwarding, Dissemination};
 
-use answer::Refusal;
-use bits::{BitPlace, Fetched};
+use answer::{Reason, Refusal};
+use bits::BitPlace;
 use lm_items::Kind;
-use read_steps::{Cursor, Step};
+use read_steps::Cursor;
 
 // Two numbers, of one octet or two each.
 fn pair(
@@ -23,26 +23,26 @@ fn pair(
     packed: &mut [u8],
     room: usize,
     cursor: Cursor,
-) -> Step
+) -> Result<Cursor, Refusal>
     requires { (length message.now ≤ most_octets) × (cursor.place.0 % 8 ≡ 0) × (1 ≤ early) × (early ≤ 2) × (1 ≤ late) × (late ≤ 2) }
     ensures { Reads message.now room (number_sized early then number_sized late) (state_at cursor values.old packed.old) values.new packed.new result }
 {
-    let first = whole::number(early, &*message, values, packed, room, cursor);
-    let Step::Past(next) = first else {
-        return first;
-    };
+    let next = whole::number(early, &*message, values, packed, room, cursor)?;
     whole::number(late, &*message, values, packed, room, next)
 }
 
 // The eight octets of the Link-ID, and the counter.
-fn link(message: &[u8], values: &mut [i64], packed: &mut [u8], room: usize, cursor: Cursor) -> Step
+fn link(
+    message: &[u8],
+    values: &mut [i64],
+    packed: &mut [u8],
+    room: usize,
+    cursor: Cursor,
+) -> Result<Cursor, Refusal>
     requires { (length message.now ≤ most_octets) × (cursor.place.0 % 8 ≡ 0) }
     ensures { Reads message.now room (times 8 octet then octet) (state_at cursor values.old packed.old) values.new packed.new result }
 {
-    let octets = read_steps::read_octets(8, &*message, values, packed, room, cursor);
-    let Step::Past(next) = octets else {
-        return octets;
-    };
+    let next = read_steps::read_octets(8, &*message, values, packed, room, cursor)?;
     whole::number(1, &*message, values, packed, room, next)
 }
 
@@ -53,38 +53,38 @@ fn forwarding(
     packed: &mut [u8],
     room: usize,
     cursor: Cursor,
-) -> Step
+) -> Result<Cursor, Refusal>
     requires { (length message.now ≤ most_octets) × (cursor.place.0 % 8 ≡ 0) }
     ensures { Reads message.now room (field_items InternalForwarding) (state_at cursor values.old packed.old) values.new packed.new result }
 {
-    let sent = pair(1, 2, &*message, values, packed, room, cursor);
-    let Step::Past(next) = sent else {
-        return sent;
-    };
+    let next = pair(1, 2, &*message, values, packed, room, cursor)?;
     link(&*message, values, packed, room, next)
 }
 
 // N-hop forwarding: message ID and hop count, which three octets hold.
-fn hops(message: &[u8], values: &mut [i64], packed: &mut [u8], room: usize, cursor: Cursor) -> Step
+fn hops(
+    message: &[u8],
+    values: &mut [i64],
+    packed: &mut [u8],
+    room: usize,
+    cursor: Cursor,
+) -> Result<Cursor, Refusal>
     requires { (length message.now ≤ most_octets) × (cursor.place.0 % 8 ≡ 0) }
     ensures { Reads message.now room (field_items NHopForwarding) (state_at cursor values.old packed.old) values.new packed.new result }
 {
     let from = cursor.place.0;
     let f = whole::fetch(&*message, cursor.place, 3);
-    let Fetched::Bits(number, next) = f else {
-        return Step::Refused(Refusal::new(Refusal::MESSAGE_ENDS, from));
+    let Some((number, next)) = f else {
+        return Err(Refusal::new(Reason::MessageEnds, from));
     };
-    let id = whole::keep(
+    let second = whole::keep(
         number / 4,
         BitPlace(from + 22),
         values,
         packed,
         room,
         cursor,
-    );
-    let Step::Past(second) = id else {
-        return id;
-    };
+    )?;
     whole::keep(number % 4, next, values, packed, room, second)
 }
 
@@ -95,12 +95,12 @@ fn address(
     packed: &mut [u8],
     room: usize,
     cursor: Cursor,
-) -> Step
+) -> Result<Cursor, Refusal>
     requires { (length message.now ≤ most_octets) × (cursor.place.0 % 8 ≡ 0) }
     ensures { Reads message.now room (field_items Dissemination) (state_at cursor values.old packed.old) values.new packed.new result }
 {
-    let item = read_item::variable(&*message, cursor.place);
-    read_steps::kept(item, values, packed, room, cursor)
+    let (value, next) = read_item::variable(&*message, cursor.place)?;
+    read_steps::keep(value, next, values, packed, room, cursor)
 }
 
 // The fields of a kind.
@@ -111,17 +111,17 @@ pub fn fields(
     packed: &mut [u8],
     room: usize,
     cursor: Cursor,
-) -> Step
+) -> Result<Cursor, Refusal>
     requires { (length message.now ≤ most_octets) × (cursor.place.0 % 8 ≡ 0) }
     ensures { Reads message.now room (field_items kind) (state_at cursor values.old packed.old) values.new packed.new result }
 {
     match kind {
-        Kind::NullNetworking => Step::Past(cursor),
+        Kind::NullNetworking => Ok(cursor),
         Kind::InternalForwarding => forwarding(&*message, values, packed, room, cursor),
         Kind::NHopForwarding => hops(&*message, values, packed, room, cursor),
         Kind::Dissemination => address(&*message, values, packed, room, cursor),
         // source address, destination address
         Kind::Session => pair(2, 2, &*message, values, packed, room, cursor),
-        Kind::UserData => Step::Past(cursor),
+        Kind::UserData => Ok(cursor),
     }
 }

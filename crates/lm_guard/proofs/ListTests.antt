@@ -15,7 +15,6 @@ use mir.Facts.{to_z-of_z}
 use borrow.Author.Tests.{le-leb, lt-leb, ltb-true, ltb-false, ne_eqb}
 use Rattle.answer.specs.Numbers.{refusal_at, accepted, refused, answer_if}
 use Rattle.answer.proofs.Numbers.{answer_if-accepted}
-use Rattle.answer.specs.declared.Answer.TheVariants.{Accepted, Refused}
 use Rattle.answer.specs.declared.Counts.{Counts}
 use Rattle.answer.specs.declared.Refusal.{Refusal}
 use Rattle.item.specs.Code.{of_natural}
@@ -24,6 +23,7 @@ use Rattle.items.specs.Writing.{encode, write_answer, write_octets}
 use Rattle.builtin.specs.Tables.{lm}
 use Rattle.lm.specs.ByName.{write_if, write_lm_outcome}
 use Rattle.lm_guard.specs.Tested.{lm_list_tested}
+use Rattle.std.proofs.Common.{Ok, Err}
 
 module _ (z : ℤ) (small : mag z < 2 ^ hbits w64) where
   held : to_z w64 (of_z w64 z) ≡ z
@@ -80,7 +80,7 @@ module _ (vs : List ℤ) where
     list-fine h k = rw (le-leb 3 (length vs) long, h, k)
 
   -- what passed them has the outcome of the table
-  pub list-passed : (cap : ℕ) (counts : Counts) → lm_list_tested vs ≡ Accepted counts → write_lm_outcome vs cap ≡ encode (asks lm) vs cap
+  pub list-passed : (cap : ℕ) (counts : Counts) → lm_list_tested vs ≡ Ok counts → write_lm_outcome vs cap ≡ encode (asks lm) vs cap
   unfolding lm_list_tested write_lm_outcome
   list-passed cap counts e =
       let a = answer_if-accepted (leb 3 (length vs)) (refusal_at 12 (length vs)) _ counts e in
@@ -89,13 +89,13 @@ module _ (vs : List ℤ) where
       rw (a.0, b.0, c.0)
 
   -- what one of them refused has that refusal
-  pub list-refused : (cap : ℕ) (refusal : Refusal) → lm_list_tested vs ≡ Refused refusal
-      → (Refused refusal ≡ write_answer (write_lm_outcome vs cap)) × (write_octets (write_lm_outcome vs cap) ≡ [])
+  pub list-refused : (cap : ℕ) (refusal : Refusal) → lm_list_tested vs ≡ Err refusal
+      → (Err refusal ≡ write_answer (write_lm_outcome vs cap)) × (write_octets (write_lm_outcome vs cap) ≡ [])
   unfolding lm_list_tested write_lm_outcome
   list-refused cap refusal e = go (leb 3 (length vs)) (of_natural (λ n. eqb n 3) (get_or vs 2 (pos 0))) (of_natural (λ n. leb n 2) (get_or vs 0 (pos 0))) e
     where
-      go : (a b c : Bool) → answer_if a (refusal_at 12 (length vs)) (answer_if b (refusal_at 10 2) (answer_if c (refusal_at 11 0) (accepted 0 0 0))) ≡ Refused refusal
-          → (Refused refusal ≡ write_answer (write_if a (refusal_at 12 (length vs)) (write_if b (refusal_at 10 2) (write_if c (refusal_at 11 0) (encode (asks lm) vs cap)))))
+      go : (a b c : Bool) → answer_if a (refusal_at 12 (length vs)) (answer_if b (refusal_at 10 2) (answer_if c (refusal_at 11 0) (accepted 0 0 0))) ≡ Err refusal
+          → (Err refusal ≡ write_answer (write_if a (refusal_at 12 (length vs)) (write_if b (refusal_at 10 2) (write_if c (refusal_at 11 0) (encode (asks lm) vs cap)))))
           × (write_octets (write_if a (refusal_at 12 (length vs)) (write_if b (refusal_at 10 2) (write_if c (refusal_at 11 0) (encode (asks lm) vs cap)))) ≡ [])
       go false b c e = (sym e, refl)
       go true false c e = (sym e, refl)

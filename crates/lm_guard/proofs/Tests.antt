@@ -9,10 +9,9 @@ use native.Mathlib.Omega.{arith}
 use lib.Dec.{leb, eqb}
 use lib.ListN.{length, take, drop}
 use borrow.Author.Tests.{leb-true, le-leb, lt-leb, eq-eqb, ne_eqb}
-use Rattle.answer.specs.Numbers.{refusal_at, accepted, refused, answer_if}
+use Rattle.answer.specs.Numbers.{Answer, refusal_at, accepted, refused, answer_if}
 use Rattle.answer.proofs.Numbers.{answer_if-accepted}
 use Rattle.bits.specs.Bits.{number_of, unpack}
-use Rattle.answer.specs.declared.Answer.TheVariants.{Accepted, Refused}
 use Rattle.answer.specs.declared.Counts.{Counts}
 use Rattle.answer.specs.declared.Refusal.{Refusal}
 use Rattle.encoding.specs.Rows.{asks}
@@ -21,6 +20,7 @@ use Rattle.items.proofs.Messages.{decode_fits}
 use Rattle.builtin.specs.Tables.{lm}
 use Rattle.lm.specs.ByName.{lm_version, lm_subtype, read_if, read_lm_outcome}
 use Rattle.lm_guard.specs.Tested.{lm_tested}
+use Rattle.std.proofs.Common.{Ok, Err}
 
 -- ── each test as the code makes it ──
 
@@ -56,7 +56,7 @@ pub record Fine (s : List ℕ) (room : ℕ) : Type 0 where
   pub some : 0 < length s
   pub outcome : read_lm_outcome s room ≡ decode (asks lm) s room
 
-pub fine : (s : List ℕ) (room : ℕ) (counts : Counts) → lm_tested s ≡ Accepted counts → Fine s room
+pub fine : (s : List ℕ) (room : ℕ) (counts : Counts) → lm_tested s ≡ Ok counts → Fine s room
 unfolding lm_tested read_lm_outcome
 fine s room counts e =
     let a = answer_if-accepted (leb (length s) 65535) (refusal_at 13 0) _ counts e in
@@ -70,14 +70,14 @@ fine s room counts e =
     }
 
 -- what one of them refused has that refusal
-pub unfit : (s : List ℕ) (room : ℕ) (refusal : Refusal) → lm_tested s ≡ Refused refusal → read_lm_outcome s room ≡ refuse refusal
+pub unfit : (s : List ℕ) (room : ℕ) (refusal : Refusal) → lm_tested s ≡ Err refusal → read_lm_outcome s room ≡ refuse refusal
 unfolding lm_tested read_lm_outcome
 unfit s room refusal e = go (leb (length s) 65535) (leb 1 (length s)) (eqb (lm_version s) 3) (leb (lm_subtype s) 2) e
   where
-    same : (by : Refusal) → Refused by ≡ Refused refusal → refuse by ≡ refuse refusal
+    same : (by : Refusal) → ◌≡◌ {A = Answer} (Err by) (Err refusal) → refuse by ≡ refuse refusal
     same by e = let r : by ≡ refusal = cc in ap refuse r
 
-    go : (a b c d : Bool) → answer_if a (refusal_at 13 0) (answer_if b (refusal_at 2 0) (answer_if c (refusal_at 10 5) (answer_if d (refusal_at 11 0) (accepted 0 0 0)))) ≡ Refused refusal
+    go : (a b c d : Bool) → answer_if a (refusal_at 13 0) (answer_if b (refusal_at 2 0) (answer_if c (refusal_at 10 5) (answer_if d (refusal_at 11 0) (accepted 0 0 0)))) ≡ Err refusal
         → read_if a (refusal_at 13 0) (read_if b (refusal_at 2 0) (read_if c (refusal_at 10 5) (read_if d (refusal_at 11 0) (decode (asks lm) s room)))) ≡ refuse refusal
     go false b c d e = same (refusal_at 13 0) e
     go true false c d e = same (refusal_at 2 0) e

@@ -1,8 +1,7 @@
 -- The tests before an LM's items and values, by themselves: what passes them is accepted and counts nothing.
 use Rattle.std.specs.Prelude.{ℕ, List, leb, eqb, ℤ, pos, length, get_or}
 use Rattle.bits.specs.Access.{most_octets}
-use Rattle.answer.specs.Numbers.{message_ends, wrong_version, wrong_subtype, wrong_value, too_long, refusal_at, accepted, answer_if}
-use Rattle.answer.specs.declared.Answer.{Answer}
+use Rattle.answer.specs.Numbers.{message_ends, wrong_version, wrong_subtype, wrong_value, too_long, refusal_at, accepted, answer_if, Answer}
 use Rattle.item.specs.Code.{of_natural}
 use Rattle.lm.specs.ByName.{lm_version, lm_subtype}
 

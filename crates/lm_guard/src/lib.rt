@@ -5,8 +5,8 @@
 ghost use Rattle.std.specs.Prelude.{◌≡◌};
 ghost use Rattle.lm_guard.specs.Tested.{lm_tested, lm_list_tested};
 
-use answer::{Answer, Refusal};
-use bits::{BitPlace, Fetched, OctetSize};
+use answer::{Answer, Counts, Reason, Refusal};
+use bits::{BitPlace, OctetSize};
 
 // The tests before an LM's items: 13, 2 where there are no octets, 10 on the version, 11 on the subtype. What passes them is
 // accepted, and counts nothing.
@@ -14,23 +14,18 @@ pub fn lm_tested(message: &[u8]) -> Answer
     ensures { result ≡ lm_tested message.now }
 {
     if OctetSize::MOST < message.len() {
-        return Answer::refused(Refusal::TOO_LONG, 0);
+        return Err(Refusal::new(Reason::TooLong, 0));
     }
-    let version = access::fetch(message, BitPlace(5), 3);
-    let Fetched::Bits(number, _) = version else {
-        return Answer::refused(Refusal::MESSAGE_ENDS, 0);
-    };
-    if number != 3 {
-        return Answer::refused(Refusal::WRONG_VERSION, 5);
+    let ends = Refusal::new(Reason::MessageEnds, 0);
+    let (version, _) = access::fetch(message, BitPlace(5), 3).ok_or(ends)?;
+    if version != 3 {
+        return Err(Refusal::new(Reason::WrongVersion, 5));
     }
-    let subtype = access::fetch(message, BitPlace(0), 4);
-    let Fetched::Bits(branch, _) = subtype else {
-        return Answer::refused(Refusal::MESSAGE_ENDS, 0);
-    };
-    if 2 < branch {
-        return Answer::refused(Refusal::WRONG_SUBTYPE, 0);
+    let (subtype, _) = access::fetch(message, BitPlace(0), 4).ok_or(ends)?;
+    if 2 < subtype {
+        return Err(Refusal::new(Reason::WrongSubtype, 0));
     }
-    Answer::accepted(0, BitPlace(0), OctetSize(0))
+    Ok(Counts::default())
 }
 
 // The tests before an LM's values: 12 on a list shorter than 3, 10 on the third value, 11 on the first. What passes them is
@@ -38,18 +33,14 @@ pub fn lm_tested(message: &[u8]) -> Answer
 pub fn lm_list_tested(values: &[i64]) -> Answer
     ensures { result ≡ lm_list_tested values.now }
 {
-    if values.len() < 3 {
-        return Answer::refused(Refusal::WRONG_VALUE, values.len());
+    let [subtype, _, version, ..] = values else {
+        return Err(Refusal::new(Reason::WrongValue, values.len()));
+    };
+    if *version != 3 {
+        return Err(Refusal::new(Reason::WrongVersion, 2));
     }
-    if values[2] != 3 {
-        return Answer::refused(Refusal::WRONG_VERSION, 2);
+    if *subtype < 0 || 2 < *subtype {
+        return Err(Refusal::new(Reason::WrongSubtype, 0));
     }
-    let subtype = values[0];
-    if subtype < 0 {
-        return Answer::refused(Refusal::WRONG_SUBTYPE, 0);
-    }
-    if 2 < subtype {
-        return Answer::refused(Refusal::WRONG_SUBTYPE, 0);
-    }
-    Answer::accepted(0, BitPlace(0), OctetSize(0))
+    Ok(Counts::default())
 }

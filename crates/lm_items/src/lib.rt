@@ -8,7 +8,7 @@ ghost use Rattle.lm_items.specs.Asked.{following, rank, is_content, least};
 
 // What follows in a message: its N-Header; the original N-Header, which one with subtype 1 holds; the T-Header; the user data;
 // nothing.
-#[derive(Clone, Copy)]
+#[derive(Clone, Copy, Debug, PartialEq, Eq)]
 pub enum Section {
     Network,
     Original,
@@ -18,7 +18,7 @@ pub enum Section {
 }
 
 // What a section is: an N-Header of subtype 0, 1 or 2, a T-Header with feature selector 0 or 1, user data.
-#[derive(Clone, Copy)]
+#[derive(Clone, Copy, Debug, PartialEq, Eq)]
 pub enum Kind {
     NullNetworking,
     InternalForwarding,
@@ -59,14 +59,7 @@ pub fn rank(section: Section) -> u32
 pub fn is_content(kind: Kind) -> bool
     ensures { result ≡ is_content kind }
 {
-    match kind {
-        Kind::NullNetworking => false,
-        Kind::InternalForwarding => false,
-        Kind::NHopForwarding => false,
-        Kind::Dissemination => false,
-        Kind::Session => false,
-        Kind::UserData => true,
-    }
+    matches!(kind, Kind::UserData)
 }
 
 // The least length of a string in a section: 1 for an extension element's contents, 0 for user data.

@@ -10,14 +10,7 @@ ghost use Rattle.lm_strings.specs.Counts.{Counts};
 
 use answer::Refusal;
 use lm_items::Kind;
-use read_steps::{Cursor, Step};
-
-// How many strings are left to be read; or the refusal.
-#[derive(Clone, Copy)]
-pub enum Counted {
-    Strings(usize, Cursor),
-    Refused(Refusal),
-}
+use read_steps::Cursor;
 
 // What stands in front of a string's length: an extension element's ID, and nothing before user data.
 fn id(
@@ -27,12 +20,12 @@ fn id(
     packed: &mut [u8],
     room: usize,
     cursor: Cursor,
-) -> Step
+) -> Result<Cursor, Refusal>
     requires { (length message.now ≤ most_octets) × (cursor.place.0 % 8 ≡ 0) }
     ensures { Reads message.now room (id_items kind) (state_at cursor values.old packed.old) values.new packed.new result }
 {
     if lm_items::is_content(kind) {
-        return Step::Past(cursor);
+        return Ok(cursor);
     }
     whole::number(1, &*message, values, packed, room, cursor)
 }
@@ -45,14 +38,11 @@ fn string(
     packed: &mut [u8],
     room: usize,
     cursor: Cursor,
-) -> Step
+) -> Result<Cursor, Refusal>
     requires { (length message.now ≤ most_octets) × (cursor.place.0 % 8 ≡ 0) }
     ensures { Reads message.now room (string_items kind) (state_at cursor values.old packed.old) values.new packed.new result }
 {
-    let step = id(kind, &*message, values, packed, room, cursor);
-    let Step::Past(next) = step else {
-        return step;
-    };
+    let next = id(kind, &*message, values, packed, room, cursor)?;
     let least = lm_items::least(kind);
     strings::octets(least, &*message, values, packed, room, next)
 }
@@ -66,21 +56,15 @@ fn strings(
     packed: &mut [u8],
     room: usize,
     cursor: Cursor,
-) -> Step
+) -> Result<Cursor, Refusal>
     requires { (length message.now ≤ most_octets) × (cursor.place.0 % 8 ≡ 0) }
     ensures { Reads message.now room (times count (string_items kind)) (state_at cursor values.old packed.old) values.new packed.new result }
 {
-    let mut done = 0;
     let mut here = cursor;
-    while done < count {
-        let step = string(kind, &*message, values, packed, room, here);
-        let Step::Past(next) = step else {
-            return step;
-        };
-        here = next;
-        done += 1;
+    for _ in 0..count {
+        here = string(kind, &*message, values, packed, room, here)?;
     }
-    Step::Past(here)
+    Ok(here)
 }
 
 // How many strings a section has: the user data is one, and the extension elements are counted where the flag says that there are
@@ -93,22 +77,19 @@ fn count(
     packed: &mut [u8],
     room: usize,
     cursor: Cursor,
-) -> Counted
+) -> Result<(usize, Cursor), Refusal>
     requires { (length message.now ≤ most_octets) × (cursor.place.0 % 8 ≡ 0) }
     ensures { Counts kind extended message.now room (state_at cursor values.old packed.old) values.new packed.new result }
 {
     if lm_items::is_content(kind) {
-        return Counted::Strings(1, cursor);
+        return Ok((1, cursor));
     }
     if !extended {
-        return Counted::Strings(0, cursor);
+        return Ok((0, cursor));
     }
-    let item = read_item::length(&*message, cursor.place, 0, 255);
-    let step = read_steps::kept(item, values, packed, room, cursor);
-    match step {
-        Step::Past(next) => Counted::Strings(read_steps::count_of(item), next),
-        Step::Refused(refusal) => Counted::Refused(refusal),
-    }
+    let (length, first) = read_item::length(&*message, cursor.place, 0, 255)?;
+    let next = read_steps::keep(length, first, values, packed, room, cursor)?;
+    Ok((item::count_of(length), next))
 }
 
 // All strings of a section.
@@ -120,15 +101,10 @@ pub fn section_strings(
     packed: &mut [u8],
     room: usize,
     cursor: Cursor,
-) -> Step
+) -> Result<Cursor, Refusal>
     requires { (length message.now ≤ most_octets) × (cursor.place.0 % 8 ≡ 0) }
     ensures { Reads message.now room (strings_items kind extended) (state_at cursor values.old packed.old) values.new packed.new result }
 {
-    let counted = count(kind, extended, &*message, values, packed, room, cursor);
-    match counted {
-        Counted::Strings(left, first) => strings(
-            kind, left, &*message, values, packed, room, first,
-        ),
-        Counted::Refused(refusal) => Step::Refused(refusal),
-    }
+    let (left, first) = count(kind, extended, &*message, values, packed, room, cursor)?;
+    strings(kind, left, &*message, values, packed, room, first)
 }

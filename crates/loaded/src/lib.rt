@@ -12,10 +12,10 @@ ghost use Rattle.read_steps.specs.Reads.{Reads, state_at, cursor_at};
 ghost use Rattle.read_steps.specs.Ends.{KeptBy};
 ghost use Rattle.loading.specs.State.{held_root, through_state};
 
-use answer::{Answer, Refusal};
+use answer::{Answer, Reason, Refusal};
 use bits::{BitPlace, OctetSize};
 use loading::{OUTCOME, PASSED, ROOT, STATE};
-use read_steps::{Cursor, Step};
+use read_steps::Cursor;
 
 // The root of a state, where it can be read.
 fn read_root(
@@ -24,7 +24,7 @@ fn read_root(
     values: &mut [i64],
     packed: &mut [u8],
     room: usize,
-) -> Step
+) -> Result<Cursor, Refusal>
     requires { (length state.now ≡ 6160) × (length message.now ≤ most_octets) }
     ensures { Reads message.now room (guarded_root state.now (held_root state.now)) (state_at (cursor_at 0 0) values.old packed.old) values.new packed.new result }
 {
@@ -34,7 +34,7 @@ fn read_root(
         count: 0,
     };
     if !guard::enters(state, at) {
-        return Step::Refused(guard::unreadable(start.place));
+        return Err(guard::unreadable(start.place));
     }
     reader::read_row(state, at, false, message, values, packed, room, start)
 }
@@ -50,10 +50,7 @@ fn read_message(
     requires { (length state.now ≡ 6160) × (0 < length message.now) × (length message.now ≤ most_octets) }
     ensures { (result ≡ read_answer (decode (guarded_root state.now (held_root state.now)) message.now room)) × KeptBy set (decode (guarded_root state.now (held_root state.now)) message.now room) values.old values.new × KeptBy set_value (decode (guarded_root state.now (held_root state.now)) message.now room) packed.old packed.new }
 {
-    let step = read_root(state, message, values, packed, room);
-    let Step::Past(end) = step else {
-        return read_steps::refused(step);
-    };
+    let end = read_root(state, message, values, packed, room)?;
     read_steps::close(message, end)
 }
 
@@ -69,13 +66,13 @@ fn read_either(
     ensures { (result ≡ read_answer (through_state state.now message.now room)) × KeptBy set (through_state state.now message.now room) values.old values.new × KeptBy set_value (through_state state.now message.now room) packed.old packed.new }
 {
     if state[OUTCOME] != PASSED {
-        return Answer::refused(Refusal::NO_TABLE, 0);
+        return Err(Refusal::new(Reason::NoTable, 0));
     }
     if OctetSize::MOST < message.len() {
-        return Answer::refused(Refusal::TOO_LONG, 0);
+        return Err(Refusal::new(Reason::TooLong, 0));
     }
     if message.len() == 0 {
-        return Answer::refused(Refusal::MESSAGE_ENDS, 0);
+        return Err(Refusal::new(Reason::MessageEnds, 0));
     }
     read_message(state, message, values, packed, room)
 }
@@ -89,7 +86,7 @@ fn read_values(state: &[u8], message: &[u8], values: &mut [i64]) -> Answer
     let room = values.len();
     let answer = read_either(state, message, values, &mut none, room);
     let kept = read_steps::kept_count(answer);
-    values::clear_values(values, kept);
+    values::clear(values, kept, 0);
     answer
 }
 
@@ -102,7 +99,7 @@ fn read_octets(state: &[u8], message: &[u8], packed: &mut [u8]) -> Answer
     let room = packed.len() / 8;
     let answer = read_either(state, message, &mut none, packed, room);
     let kept = read_steps::kept_count(answer);
-    values::clear_octets(packed, kept * 8);
+    values::clear(packed, kept * 8, 0);
     answer
 }
 

@@ -6,76 +6,69 @@ use mathlib.Core.Path.{◌≡◌, refl, sym, ap, ◌∙◌}
 use mathlib.Core.List.{List, [], ◌++◌, append-nil, append_assoc}
 use native.Mathlib.Omega.{arith}
 use lib.ListN.{length, take, drop, replicate, length-append, length-drop, take-append-drop}
-use lib.Seq.{take_at, drop_at, take-length, length-take-le, drop-append-add, take-take, paste, length-paste}
+use lib.Seq.{take_at, drop_at, length-take-le}
+use borrow.Rule.Slice.PartMut.{put_mid}
 use Rattle.items.specs.Slices.{filled}
 use Rattle.items.proofs.Filled.{filled_up}
 use Rattle.loading.specs.State.{numbers_of, state_with}
 
--- zeros put into the first octets of a list, from an index on
-pub cleared : (l part : List ℕ) (from end : ℕ) → from ≤ end → end ≤ length l
-    → part ≡ take from (take end l) ++ replicate (length (take end l) - from) 0
-    → part ++ drop end l ≡ take from l ++ replicate (end - from) 0 ++ drop end l
-cleared l part from end h k e = rw (e, length-take-le end l k, take-take from end l h)
+-- a list put in place of a part
+over : (p part q new : List ℕ) (at n : ℕ) → length p ≡ at → length part ≡ n → put_mid at n (p ++ (part ++ q)) new ≡ p ++ (new ++ q)
+over p part q new at n e k = rw (take_at p (part ++ q) at e, drop_at p (part ++ q) at e, drop_at part q n k)
 
--- a list put over a part as long as it
-over : (p part q l : List ℕ) (from : ℕ) → length p ≡ from → length part ≡ length l → paste (p ++ (part ++ q)) from l (length l) ≡ p ++ (l ++ q)
-over p part q l from e k =
-    let before : take from (p ++ (part ++ q)) ≡ p = take_at p (part ++ q) from e in
-    let behind : drop (from + length l) (p ++ (part ++ q)) ≡ q =
-    ap (λ (n : ℕ). drop (n + length l) (p ++ (part ++ q))) (sym e)
-    ∙ drop-append-add p (part ++ q) (length l)
-    ∙ drop_at part q (length l) k in
-    rw (before, behind, take-length l, append_assoc p l q)
+-- and in place of the first n that stand behind p
+over_first : (p r new : List ℕ) (at n : ℕ) → length p ≡ at → n ≤ length r → put_mid at n (p ++ r) new ≡ p ++ (new ++ drop n r)
+over_first p r new at n e k =
+    ap (λ (x : List ℕ). put_mid at n (p ++ x) new) (sym (take-append-drop n r)) ∙ over p (take n r) (drop n r) new at n e (length-take-le n r k)
 
--- a table copied to the front, and zeros put after it up to an offset
-in_front : (st t st₁ : List ℕ) (end : ℕ) → length t ≤ length st → st₁ ≡ paste st 0 t (length t)
-    → take (length t) st₁ ++ replicate (end - length t) 0 ++ drop end st₁ ≡ filled 0 end t ++ drop end st₁
-in_front st t st₁ end k e =
-    let copied : paste st 0 t (length t) ≡ t ++ drop (length t) st =
-    ap (λ (l : List ℕ). paste l 0 t (length t)) (sym (take-append-drop (length t) st))
-    ∙ over [] (take (length t) st) (drop (length t) st) t 0 refl (length-take-le (length t) st k) in
-    ap (λ (l : List ℕ). l ++ replicate (end - length t) 0 ++ drop end st₁)
-    (ap (take (length t)) (e ∙ copied) ∙ take_at t (drop (length t) st) (length t) refl)
+-- a table in front, zeros behind it up to one offset, the depths from there to another, and the numbers from there on
+pieces : (st t d last : List ℕ) (from then : ℕ) → length t ≤ from → from + length d ≡ then → length st ≡ then + length last
+    → (zeroed stored : List ℕ)
+    → zeroed ≡ put_mid (length t) (from - length t) (t ++ drop (length t) st) (replicate (from - length t) 0)
+    → stored ≡ put_mid from (length d) zeroed d
+    → put_mid then (length stored - then) stored last ≡ filled 0 from t ++ (d ++ last)
+pieces st t d last from then most e whole zeroed stored zeroed_is stored_is =
+    let front = filled 0 from t in
+    let sized : length front ≡ from = filled_up.whole 0 from t most in
+    let k = from - length t in
+    let r = drop k (drop (length t) st) in
+    let rest : length r ≡ length d + length last = omega (arith, length-drop k (drop (length t) st), length-drop (length t) st) in
+    let a : zeroed ≡ front ++ r =
+    zeroed_is
+    ∙ over_first t (drop (length t) st) (replicate k 0) (length t) k refl (omega (arith, length-drop (length t) st))
+    ∙ sym (append_assoc t (replicate k 0) r) in
+    let b : stored ≡ front ++ (d ++ drop (length d) r) =
+    stored_is ∙ ap (λ (x : List ℕ). put_mid from (length d) x d) a ∙ over_first front r d from (length d) sized (omega arith) in
+    let q = drop (length d) r in
+    let left : length stored - then ≡ length q =
+    omega (arith, ap length b, length-append front (d ++ q), length-append d q, sized) in
+    let both : length (front ++ d) ≡ then = omega (arith, length-append front d, sized) in
+    ap (λ (x : List ℕ). put_mid then (length stored - then) x last)
+    (b ∙ sym (append_assoc front d q) ∙ ap (λ (x : List ℕ). (front ++ d) ++ x) (sym (append-nil q)))
+    ∙ over (front ++ d) q [] last then (length stored - then) both (sym left)
+    ∙ ap (λ (x : List ℕ). (front ++ d) ++ x) (append-nil last)
+    ∙ append_assoc front d last
 
--- two lists put behind one another, over all that stood there
-both-over : (p r d l : List ℕ) (from then : ℕ) → length p ≡ from → from + length d ≡ then → length r ≡ length d + length l
-    → paste (paste (p ++ r) from d (length d)) then l (length l) ≡ p ++ (d ++ l)
-both-over p r d l from then e f k =
-    let n = length d in
-    ap (λ (x : List ℕ). paste x then l (length l))
-    (ap (λ (x : List ℕ). paste (p ++ x) from d n) (sym (take-append-drop n r))
-    ∙ over p (take n r) (drop n r) d from e (length-take-le n r (omega arith))
-    ∙ sym (append_assoc p d (drop n r))
-    ∙ ap (λ (x : List ℕ). (p ++ d) ++ x) (sym (append-nil (drop n r))))
-    ∙ over (p ++ d) (drop n r) [] l then (omega (arith, length-append p d)) (omega (arith, length-drop n r))
-    ∙ ap (λ (x : List ℕ). (p ++ d) ++ x) (append-nil l)
-    ∙ append_assoc p d l
+module _ (st t d : List ℕ) (rows root : ℕ) (whole : length st ≡ 6160) (most : length t ≤ 4096) (sized : length d ≡ 2048) where
+  -- the state after the zeros, and after the depths
+  abbrev pub zeroed : List ℕ → List ℕ → List ℕ
+  zeroed copied zeros = put_mid (length t) (4096 - length t) (copied ++ drop (length t) st) zeros
 
--- what the stores leave, one after another, where the depths are put at one offset and the numbers at another
-pieces : (st₀ t d last : List ℕ) (from then : ℕ) → length t ≤ from → from + length d ≡ then → length st₀ ≡ then + length last
-    → (st₁ st₂ st₃ st₄ : List ℕ)
-    → st₁ ≡ paste st₀ 0 t (length t)
-    → st₂ ≡ take (length t) st₁ ++ replicate (from - length t) 0 ++ drop from st₁
-    → st₃ ≡ paste st₂ from d (length d)
-    → st₄ ≡ paste st₃ then last (length last)
-    → st₄ ≡ filled 0 from t ++ (d ++ last)
-pieces st₀ t d last from then most e whole st₁ st₂ st₃ st₄ e₁ e₂ e₃ e₄ =
-    let k : length (drop from st₁) ≡ length d + length last =
-    omega (arith, length-drop from st₁, ap length e₁, length-paste st₀ 0 t (length t) (omega arith) (omega arith)) in
-    e₄
-    ∙ rw (e₃, e₂ ∙ in_front st₀ t st₁ from (omega arith) e₁)
-    (both-over (filled 0 from t) (drop from st₁) d last from then (filled_up.whole 0 from t most) e k)
+  abbrev pub stored : List ℕ → List ℕ → List ℕ → List ℕ
+  stored copied zeros depths = put_mid 4096 2048 (zeroed copied zeros) depths
 
-pub stores : (st₀ t d last : List ℕ) (rows root : ℕ) → length st₀ ≡ 6160 → length t ≤ 4096 → length d ≡ 2048
-    → last ≡ numbers_of (length t) rows root
-    → (st₁ st₂ st₃ st₄ : List ℕ)
-    → st₁ ≡ paste st₀ 0 t (length t)
-    → st₂ ≡ take (length t) st₁ ++ replicate (4096 - length t) 0 ++ drop 4096 st₁
-    → st₃ ≡ paste st₂ 4096 d (length d)
-    → st₄ ≡ paste st₃ 6144 last (length last)
-    → st₄ ≡ state_with t d rows root
-unfolding state_with
-stores st₀ t d last rows root whole most sized is st₁ st₂ st₃ st₄ e₁ e₂ e₃ e₄ =
-    let n : length last ≡ 16 = ap length is in
-    pieces st₀ t d last 4096 6144 most (omega arith) (omega arith) st₁ st₂ st₃ st₄ e₁ e₂ e₃ e₄
-    ∙ ap (λ (l : List ℕ). filled 0 4096 t ++ (d ++ l)) is
+  pub stores : (copied zeros depths last : List ℕ)
+      → copied ≡ t
+      → zeros ≡ replicate (length (take (4096 - length t) (drop (length t) (copied ++ drop (length t) st)))) 0
+      → depths ≡ d
+      → last ≡ numbers_of (length t) rows root
+      → put_mid 6144 (length (stored copied zeros depths) - 6144) (stored copied zeros depths) last ≡ state_with t d rows root
+  unfolding state_with
+  stores copied zeros depths last copied_is zeros_are depths_are last_is =
+      let n : length last ≡ 16 = ap length last_is in
+      let filled_part : length (take (4096 - length t) (drop (length t) (copied ++ drop (length t) st))) ≡ 4096 - length t =
+      rw (copied_is, drop_at t (drop (length t) st) (length t) refl) (length-take-le (4096 - length t) (drop (length t) st) (omega (arith, length-drop (length t) st))) in
+      let all : zeros ≡ replicate (4096 - length t) 0 = zeros_are ∙ ap (λ (n : ℕ). replicate n 0) filled_part in
+      pieces st t d last 4096 6144 most (omega arith) (omega arith) (zeroed copied zeros) (stored copied zeros depths)
+      (rw (copied_is, all)) (rw (depths_are, sized))
+      ∙ ap (λ (l : List ℕ). filled 0 4096 t ++ (d ++ l)) last_is

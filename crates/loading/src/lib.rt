@@ -6,10 +6,8 @@ ghost use Rattle.std.specs.Prelude.{◌≡◌, ◌++◌, ◌-◌, ◌≤◌, len
 ghost use Rattle.table.specs.Verdict.{verdict, checked};
 ghost use Rattle.loading.specs.State.{numbers_of, state_with, loaded_by};
 
-use answer::Answer;
-use bits::{BitPlace, OctetSize};
+use answer::{Answer, Counts};
 use row::Row;
-use table::pass::Found;
 
 // The octets of a state. They are all 0 in a fresh one, which holds no table.
 pub const STATE: usize = 6160;
@@ -28,35 +26,16 @@ pub const OUTCOME: usize = 6150;
 
 pub const PASSED: u8 = 1;
 
-// Zeroes the octets of a state from an index up to another.
-fn clear(state: &mut [u8], from: usize, end: usize)
-    requires { (from ≤ end) × (end ≤ length state.old) }
-    ensures { state.new ≡ take from state.old ++ replicate (end - from) 0 ++ drop end state.old }
-{
-    values::clear_octets(&mut state[..end], from);
-}
-
 // The octets from LENGTH on: a length, a row count, a root, and that the check passed.
 fn numbers(size: usize, rows: usize, root: usize) -> [u8; STATE - LENGTH]
     ensures { result ≡ numbers_of size rows root }
 {
+    let [size_low, size_high, ..] = size.to_le_bytes();
+    let [rows_low, rows_high, ..] = rows.to_le_bytes();
+    let [root_low, root_high, ..] = root.to_le_bytes();
     [
-        (size % 256) as u8,
-        (size / 256 % 256) as u8,
-        (rows % 256) as u8,
-        (rows / 256 % 256) as u8,
-        (root % 256) as u8,
-        (root / 256 % 256) as u8,
-        PASSED,
-        0,
-        0,
-        0,
-        0,
-        0,
-        0,
-        0,
-        0,
-        0,
+        size_low, size_high, rows_low, rows_high, root_low, root_high, PASSED, 0, 0, 0, 0, 0, 0, 0,
+        0, 0,
     ]
 }
 
@@ -65,11 +44,10 @@ fn store(state: &mut [u8], table: &[u8], depths: &[u8], rows: usize, root: usize
     requires { (length state.old ≡ 6160) × (length table.now ≤ 4096) × (length depths.now ≡ 2048) }
     ensures { state.new ≡ state_with table.now depths.now rows root }
 {
-    values::copy_octets(state, 0, table);
-    clear(state, table.len(), DEPTHS);
-    values::copy_octets(state, DEPTHS, depths);
-    let last = numbers(table.len(), rows, root);
-    values::copy_octets(state, LENGTH, &last);
+    state[..table.len()].copy_from_slice(table);
+    state[table.len()..DEPTHS].fill(0);
+    state[DEPTHS..LENGTH].copy_from_slice(depths);
+    state[LENGTH..].copy_from_slice(&numbers(table.len(), rows, root));
 }
 
 // Checks a table and, if it obeys the rules, loads it: it replaces all that the state held. If not, the state stays as it was.
@@ -77,12 +55,7 @@ pub fn load(state: &mut [u8; STATE], table: &[u8]) -> Answer
     ensures { (result ≡ checked (verdict table.now)) × (state.new ≡ loaded_by state.old table.now) }
 {
     let mut depths = [0u8; Row::MOST_TABLE / 2];
-    let found = table::pass::pass(table, &mut depths);
-    match found {
-        Found::Rows(rows, root) => {
-            store(state, table, &depths, rows, root);
-            Answer::accepted(0, BitPlace(0), OctetSize(0))
-        }
-        Found::Breaks(refusal) => Answer::Refused(refusal),
-    }
+    let found = table::pass::pass(table, &mut depths)?;
+    store(state, table, &depths, found.rows, found.root);
+    Ok(Counts::default())
 }

@@ -11,10 +11,7 @@ use answer::Answer;
 pub fn lm_message(message: &[u8], values: &mut [i64], packed: &mut [u8], room: usize) -> Answer
     ensures { (result ≡ read_answer (read_lm_outcome message.now room)) × KeptBy set (read_lm_outcome message.now room) values.old values.new × KeptBy set_value (read_lm_outcome message.now room) packed.old packed.new }
 {
-    let tested = lm_guard::lm_tested(message);
-    let Answer::Accepted(_) = tested else {
-        return tested;
-    };
+    lm_guard::lm_tested(message)?;
     reading::read_message(
         &builtin::LM,
         builtin::LM_ROOT,

@@ -22,7 +22,7 @@ pub fn read_lm(message: &[u8], values: &mut [i64]) -> Answer
     let room = values.len();
     let answer = either::lm_message(message, values, &mut none, room);
     let kept = read_steps::kept_count(answer);
-    values::clear_values(values, kept);
+    values::clear(values, kept, 0);
     answer
 }
 
@@ -44,11 +44,10 @@ pub fn read_srm(message: &[u8], values: &mut [i64]) -> Answer
 pub fn write_lm(values: &[i64], output: &mut [u8]) -> Answer
     ensures { (result ≡ write_lm_call values.now (length output.old)) × (output.new ≡ output_after (length output.old) (write_lm_outcome values.now (length output.old))) }
 {
-    let tested = lm_guard::lm_list_tested(values);
-    let Answer::Accepted(_) = tested else {
-        values::clear_octets(output, 0);
-        return tested;
-    };
+    if let Err(refusal) = lm_guard::lm_list_tested(values) {
+        values::clear(output, 0, 0);
+        return Err(refusal);
+    }
     let none = [0u8; 0];
     writing::write_known(&builtin::LM, builtin::LM_ROOT, values, &none, output)
 }

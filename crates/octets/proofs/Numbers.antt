@@ -1,16 +1,16 @@
 -- Laws of the numbers that stand in octets: how large each can be, and what a row of them holds.
-use Prim.Native.Nat.{ℕ, zero, suc, ◌+◌, ◌-◌, ◌*◌, ◌%◌, ◌≤◌, ◌<◌}
+use Prim.Native.Nat.{ℕ, zero, suc, ◌+◌, ◌-◌, ◌*◌, ◌≤◌, ◌<◌}
 use mathlib.Core.Bool.{Bool, true, false, cond}
 use mathlib.Core.Path.{◌≡◌, refl, ap, ◌∙◌}
 use mathlib.Core.List.{List}
 use native.Mathlib.Omega.{arith}
 use lib.Dec.{ltb}
-use lib.IntN.{pos, negsuc, ◌-ℤ◌}
+use lib.IntN.{ℤ, pos, negsuc}
 use lib.ListN.{length, get_or}
 use lib.Signed.{mag}
-use mir.Syntax.{w64}
-use mir.Val.{SFits}
-use borrow.Author.Tests.{ltb-true, ltb-false, lt-ltb, le-ltb}
+use mir.Syntax.{w32}
+use mir.Val.{to_z, sel}
+use borrow.Author.Tests.{ltb-true, ltb-false}
 use Rattle.octets.specs.Numbers.{u16, u32, u16s, signed}
 
 module _ (t : List ℕ) (octets : (i : ℕ) → get_or t i 0 < 256) where
@@ -51,28 +51,13 @@ mag-signed n h =
     (λ e. omega (arith, ltb-true n 2147483648 e))
     (λ e. omega (arith, ltb-false n 2147483648 e))
 
--- a number of 32 bits, half of the range further on and around its end, and back
-pub turned : (n : ℕ) → n < 4294967296 → pos ((n + 2147483648) % 4294967296) -ℤ pos 2147483648 ≡ signed n
+-- it is what the machine reads
+pub to_z-signed : (n : ℕ) → to_z w32 n ≡ signed n
 unfolding signed
-turned n h = go (ltb n 2147483648) refl
+to_z-signed n =
+    let e : 4294967296 - suc n ≡ 4294967295 - n = omega arith in
+    either (ltb n 2147483648) (pos n) (negsuc (4294967296 - suc n)) (negsuc (4294967295 - n)) (ap negsuc e)
   where
-    go : (b : Bool) → ltb n 2147483648 ≡ b → pos ((n + 2147483648) % 4294967296) -ℤ pos 2147483648 ≡ cond b (pos n) (negsuc (4294967295 - n))
-    go true e =
-        let less = ltb-true n 2147483648 e in
-        let m : (n + 2147483648) % 4294967296 ≡ n + 2147483648 = omega arith in
-        let d : n + 2147483648 - 2147483648 ≡ n = omega arith in
-        rw (m, le-ltb (n + 2147483648) 2147483648 (omega arith)) (ap pos d)
-    go false e =
-        let more = ltb-false n 2147483648 e in
-        let m : (n + 2147483648) % 4294967296 ≡ n - 2147483648 = omega arith in
-        let d : 2147483648 - suc (n - 2147483648) ≡ 4294967295 - n = omega arith in
-        rw (m, lt-ltb (n - 2147483648) 2147483648 (omega arith)) (ap negsuc d)
-
--- it fits 64 bits
-pub signed-fits : (n : ℕ) → n < 4294967296 → SFits w64 (signed n)
-unfolding signed
-signed-fits n h = go (ltb n 2147483648) refl
-  where
-    go : (b : Bool) → ltb n 2147483648 ≡ b → SFits w64 (cond b (pos n) (negsuc (4294967295 - n)))
-    go true e = record { sfits = omega (arith, ltb-true n 2147483648 e) }
-    go false e = record { sfits = omega (arith, ltb-false n 2147483648 e) }
+    either : (b : Bool) (x y z : ℤ) → y ≡ z → sel b x y ≡ cond b x z
+    either true x y z e = refl
+    either false x y z e = e

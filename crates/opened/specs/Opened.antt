@@ -1,14 +1,11 @@
 -- What an opened message holds, what opening answers, and what taking k bits at a place gives, for every message, place and k
 -- (document 01, "An opened message keeps the lent octets and a bit place together").
-use Rattle.std.specs.Prelude.{ℕ, ◌+◌, ◌-◌, ◌*◌, cond, List, [], leb, ltb, length, take, drop}
+use Rattle.std.specs.Prelude.{ℕ, ◌+◌, ◌-◌, ◌*◌, cond, List, [], leb, ltb, length, take, drop, Result, Ok, Err}
 use Rattle.bits.specs.Access.{most_octets}
 use Rattle.bits.specs.Bits.{number_of, unpack}
-use Rattle.bits.specs.declared.Fetched.{Fetched}
-use Rattle.bits.specs.declared.Fetched.TheVariants.{Bits, Short}
-use Rattle.answer.specs.declared.Answer.{Answer}
-use Rattle.answer.specs.Numbers.{refusal_at, accepted, refused, too_long, outside_limits, message_ends}
-use Rattle.opened.specs.declared.Taken.{Taken}
-use Rattle.opened.specs.declared.Taken.TheVariants.{Number, Refused}
+use Rattle.answer.specs.Numbers.{Answer, refusal_at, accepted, refused, too_long, outside_limits, message_ends}
+use Rattle.bits.specs.declared.BitPlace.{BitPlace}
+use Rattle.answer.specs.declared.Refusal.{Refusal}
 
 -- the octets that opening holds: none above 65,535
 abbrev pub kept : List ℕ → List ℕ
@@ -18,12 +15,16 @@ kept m = cond (ltb most_octets (length m)) [] m
 abbrev pub opening : List ℕ → Answer
 opening m = cond (ltb most_octets (length m)) (refused too_long 0) (accepted 0 0 0)
 
+-- what taking gives: the bits' number and the place after them; or the refusal
+abbrev pub Taken : Type 0
+Taken = Result (ℕ × BitPlace) Refusal
+
 -- the case for each outcome of taking: the bits' number and the place after them; a refusal's number and the place that stays
 abbrev pub took : ℕ → ℕ → Taken
-took n next = Number n (record { 0 = next })
+took n next = Ok (n, record { 0 = next })
 
 abbrev pub refused_at : ℕ → ℕ → Taken
-refused_at number p = Refused (refusal_at number p)
+refused_at number p = Err (refusal_at number p)
 
 -- k bits taken at p: above 32 is 6, then too few bits is 2, which are those from p on; of no bits none is missing, anywhere
 abbrev pub taken : List ℕ → ℕ → ℕ → Taken
@@ -33,11 +34,5 @@ taken m p k =
 
 -- the place after: k on, or where it was
 abbrev pub place_of : Taken → ℕ
-place_of (Number n next) = next.0
-place_of (Refused r) = r.place
-
--- ── for the private functions: what access::fetch gives at p, as an answer ──
-
-abbrev pub of_fetched : ℕ → Fetched → Taken
-of_fetched p (Bits n next) = took n next.0
-of_fetched p Short = refused_at message_ends p
+place_of (Ok (n, next)) = next.0
+place_of (Err r) = r.place

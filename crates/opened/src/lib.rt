@@ -4,10 +4,10 @@
 
 ghost use Rattle.std.specs.Prelude.{◌≡◌, ◌≤◌, length};
 ghost use Rattle.bits.specs.Access.{most_octets};
-ghost use Rattle.opened.specs.Opened.{kept, opening, refused_at, of_fetched, taken, place_of};
+ghost use Rattle.opened.specs.Opened.{kept, opening, taken, place_of};
 
-use answer::{Answer, Refusal};
-use bits::{BitPlace, Fetched, OctetSize};
+use answer::{Answer, Counts, Reason, Refusal};
+use bits::{BitPlace, OctetSize};
 
 // One that `open` made holds at most 65,535 octets. Taking bits from any other is as if its octets were opened anew.
 #[derive(Clone, Copy)]
@@ -16,18 +16,11 @@ pub struct Opened<'a> {
     pub place: BitPlace,
 }
 
-// What taking bits gives: their number and the place after them, or the refusal, whose place is the one that stays.
-#[derive(Clone, Copy)]
-pub enum Taken {
-    Number(u32, BitPlace),
-    Refused(Refusal),
-}
-
 // The most bits that are taken at once.
 const MOST_BITS: u32 = 32;
 
 // The octets that an opened message holds: the lent ones themselves, or none of them where they are too many.
-fn held<'a>(message: &'a [u8]) -> &'a [u8]
+fn held(message: &[u8]) -> &[u8]
     ensures { (result.now ≡ kept message.now) × (result.ref_ptr ≡ message.entry.ref_ptr) × (length result.now ≤ most_octets) }
 {
     if message.len() <= OctetSize::MOST {
@@ -41,48 +34,32 @@ pub fn opening(message: &[u8]) -> Answer
     ensures { result ≡ opening message.now }
 {
     if OctetSize::MOST < message.len() {
-        return Answer::refused(Refusal::TOO_LONG, 0);
+        return Err(Refusal::new(Reason::TooLong, 0));
     }
-    Answer::accepted(0, BitPlace(0), OctetSize(0))
-}
-
-fn refused(number: u32, place: BitPlace) -> Taken
-    ensures { result ≡ refused_at number place.0 }
-{
-    Taken::Refused(Refusal::new(number, place.0))
-}
-
-// What was fetched at a place, as an answer.
-fn of_fetched(place: BitPlace, fetched: Fetched) -> Taken
-    ensures { result ≡ of_fetched place.0 fetched }
-{
-    match fetched {
-        Fetched::Bits(number, next) => Taken::Number(number, next),
-        Fetched::Short => refused(Refusal::MESSAGE_ENDS, place),
-    }
+    Ok(Counts::default())
 }
 
 // Takes k bits at a place of the octets that are held. A place beyond the end is 2 at that place, for k from 1 to 32; of no bits
-// none is missing anywhere.
-pub fn take_from(message: &[u8], place: BitPlace, k: u32) -> Taken
+// none is missing anywhere. A refusal's place is the one that stays.
+pub fn take_from(message: &[u8], place: BitPlace, k: u32) -> Result<(u32, BitPlace), Refusal>
     ensures { result ≡ taken (kept message.now) place.0 k }
 {
     if MOST_BITS < k {
-        return refused(Refusal::OUTSIDE_LIMITS, place);
+        return Err(Refusal::new(Reason::OutsideLimits, place.0));
     }
     if k == 0 {
-        return Taken::Number(0, place);
+        return Ok((0, place));
     }
-    of_fetched(place, access::fetch(held(message), place, k))
+    access::fetch(held(message), place, k).ok_or_else(|| Refusal::new(Reason::MessageEnds, place.0))
 }
 
 // Where taking leaves an opened message: k on, or where it was.
-fn place_after(taken: Taken) -> BitPlace
+fn place_after(taken: Result<(u32, BitPlace), Refusal>) -> BitPlace
     ensures { result.0 ≡ place_of taken }
 {
     match taken {
-        Taken::Number(_, next) => next,
-        Taken::Refused(refusal) => BitPlace(refusal.place),
+        Ok((_, next)) => next,
+        Err(refusal) => BitPlace(refusal.place),
     }
 }
 
@@ -97,7 +74,7 @@ pub fn open<'a>(message: &'a [u8]) -> Opened<'a>
 }
 
 // Takes k bits and moves on behind them; a refusal leaves the message where it was.
-pub fn take<'s, 'a>(opened: &'s mut Opened<'a>, k: u32) -> Taken
+pub fn take<'s, 'a>(opened: &'s mut Opened<'a>, k: u32) -> Result<(u32, BitPlace), Refusal>
     ensures { (result ≡ taken (kept opened.old.message.now) opened.old.place.0 k) × (opened.new.message ≡ opened.old.message) × (opened.new.place.0 ≡ place_of result) }
 {
     let taken = take_from(opened.message, opened.place, k);

@@ -2,21 +2,21 @@
 // behind it. Numbers stand in the file's octet order, which the first four octets tell; an EtherType is big-endian in every file.
 #![tactic(auto)]
 
-ghost use Rattle.std.specs.Prelude.{◌+◌, ◌*◌, ◌<◌, ◌≤◌, ◌≡◌, length};
+ghost use Rattle.std.specs.Prelude.{◌+◌, ◌<◌, ◌≤◌, ◌≡◌, length};
 ghost use Rattle.machine.specs.declared.Front.TheVariants.{Whole, Part};
-ghost use Rattle.pcap.specs.Pcap.{spelled, word, headed, order_of, file_front, record_front, record_of};
+ghost use Rattle.pcap.specs.Pcap.{word, headed, order_of, file_front, record_front, record_of};
 
 use machine::Front;
 
 // The octet order of a file's numbers.
-#[derive(Clone, Copy)]
+#[derive(Clone, Copy, Debug, PartialEq, Eq)]
 pub enum Order {
     Little,
     Big,
 }
 
 // What a whole record is for: cut short when it was captured, an LM, or anything else.
-#[derive(Clone, Copy)]
+#[derive(Clone, Copy, Debug, PartialEq, Eq)]
 pub enum Record {
     Cut,
     Lm,
@@ -31,12 +31,12 @@ const RECORD_HEADER: usize = 16;
 pub const LM_HEADERS: usize = 30;
 
 // The mark of a file with microseconds, and the link type of Ethernet.
-const MICROSECONDS: usize = 0xa1b2c3d4;
+const MICROSECONDS: u32 = 0xa1b2c3d4;
 
-const ETHERNET: usize = 1;
+const ETHERNET: u32 = 1;
 
 // The largest record, in octets kept.
-const KEPT: usize = 2048;
+const KEPT: u32 = 2048;
 
 // The EtherType of an LM, 0x88DC, and where it stands in a record.
 const HIGH: u8 = 0x88;
@@ -47,32 +47,15 @@ const HIGH_AT: usize = 28;
 
 const LOW_AT: usize = 29;
 
-fn wide(x: u8) -> usize
-    ensures { (result ≡ x) × (result < 256) }
-{
-    x as usize
-}
-
-// The number that four octets spell, the lowest first.
-fn number(a: usize, b: usize, c: usize, d: usize) -> usize
-    requires { (a < 256) × (b < 256) × (c < 256) × (d < 256) }
-    ensures { (result ≡ spelled a b c d) × (result < 4294967296) }
-{
-    a + 256 * b + 65536 * c + 16777216 * d
-}
-
 // Four octets as a number, in an order.
-fn word_at(order: Order, s: &[u8], at: usize) -> usize
+fn word_at(order: Order, s: &[u8], at: usize) -> u32
     requires { at + 3 < length s.now }
-    ensures { (result ≡ word order s.now at) × (result < 4294967296) }
+    ensures { result ≡ word order s.now at }
 {
-    let a = wide(s[at]);
-    let b = wide(s[at + 1]);
-    let c = wide(s[at + 2]);
-    let d = wide(s[at + 3]);
+    let octets = [s[at], s[at + 1], s[at + 2], s[at + 3]];
     match order {
-        Order::Little => number(a, b, c, d),
-        Order::Big => number(d, c, b, a),
+        Order::Little => u32::from_le_bytes(octets),
+        Order::Big => u32::from_be_bytes(octets),
     }
 }
 
@@ -81,11 +64,7 @@ fn is_headed(order: Order, file: &[u8]) -> bool
     requires { 24 ≤ length file.now }
     ensures { result ≡ headed order file.now }
 {
-    if word_at(order, file, 0) == MICROSECONDS {
-        word_at(order, file, 20) == ETHERNET
-    } else {
-        false
-    }
+    word_at(order, file, 0) == MICROSECONDS && word_at(order, file, 20) == ETHERNET
 }
 
 // What the octets of a file begin with: its header, in one order or the other.
@@ -96,13 +75,11 @@ pub fn file_front(file: &[u8]) -> Front
     if file.len() < FILE_HEADER {
         return Front::Part;
     }
-    if is_headed(Order::Little, file) {
-        return Front::Whole(FILE_HEADER);
+    if is_headed(Order::Little, file) || is_headed(Order::Big, file) {
+        Front::Whole(FILE_HEADER)
+    } else {
+        Front::Wrong
     }
-    if is_headed(Order::Big, file) {
-        return Front::Whole(FILE_HEADER);
-    }
-    Front::Wrong
 }
 
 // The order of a file whose header is as asked.
@@ -130,7 +107,7 @@ pub fn record_front(order: Order, octets: &[u8]) -> Front
     if KEPT < kept {
         return Front::Wrong;
     }
-    let size = RECORD_HEADER + kept;
+    let size = RECORD_HEADER + kept as usize;
     if octets.len() < size {
         return Front::Part;
     }
@@ -150,10 +127,7 @@ pub fn record_of(order: Order, octets: &[u8]) -> Record
     if octets.len() < LM_HEADERS {
         return Record::Other;
     }
-    if octets[HIGH_AT] != HIGH {
-        return Record::Other;
-    }
-    if octets[LOW_AT] == LOW {
+    if octets[HIGH_AT] == HIGH && octets[LOW_AT] == LOW {
         Record::Lm
     } else {
         Record::Other

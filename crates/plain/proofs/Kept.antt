@@ -4,7 +4,7 @@ use Prim.Native.Nat.{ℕ}
 use mathlib.Core.Path.{◌≡◌, ap, ◌∙◌}
 use mathlib.Core.List.{List}
 use lib.ListN.{length}
-use Rattle.answer.specs.declared.Answer.{Answer}
+use Rattle.answer.specs.Numbers.{Answer}
 use Rattle.items.specs.Reading.{read_answer, read_values}
 use Rattle.read_steps.specs.Ends.{kept_count}
 use Rattle.read_steps.proofs.Settled.{count-is}

@@ -11,24 +11,18 @@ ghost use Rattle.lm.specs.ByName.{read_lm_outcome, read_lm_call};
 
 use answer::Answer;
 use bits::BitPlace;
-use read_steps::{Cursor, Step};
+use read_steps::Cursor;
 
 // An LM into either slice.
 fn lm_message(message: &[u8], values: &mut [i64], packed: &mut [u8], room: usize) -> Answer
     ensures { (result ≡ read_answer (read_lm_outcome message.now room)) × KeptBy set (read_lm_outcome message.now room) values.old values.new × KeptBy set_value (read_lm_outcome message.now room) packed.old packed.new }
 {
-    let tested = lm_guard::lm_tested(message);
-    let Answer::Accepted(_) = tested else {
-        return tested;
-    };
+    lm_guard::lm_tested(message)?;
     let start = Cursor {
         place: BitPlace(0),
         count: 0,
     };
-    let step = lm_sections::read_sections(message, values, packed, room, start);
-    let Step::Past(end) = step else {
-        return read_steps::refused(step);
-    };
+    let end = lm_sections::read_sections(message, values, packed, room, start)?;
     read_steps::close(message, end)
 }
 
@@ -40,7 +34,7 @@ pub fn read_lm(message: &[u8], values: &mut [i64]) -> Answer
     let room = values.len();
     let answer = lm_message(message, values, &mut none, room);
     let kept = read_steps::kept_count(answer);
-    values::clear_values(values, kept);
+    values::clear(values, kept, 0);
     answer
 }
 
@@ -52,6 +46,6 @@ pub fn read_lm_packed(message: &[u8], values: &mut [u8]) -> Answer
     let room = values.len() / 8;
     let answer = lm_message(message, &mut none, values, room);
     let kept = read_steps::kept_count(answer);
-    values::clear_octets(values, 8 * kept);
+    values::clear(values, 8 * kept, 0);
     answer
 }

@@ -2,11 +2,9 @@
 // those with values as numbers, which the host's calls do not reach.
 #![tactic(auto)]
 
-use bits::{BitPlace, Fetched, OctetSize};
+use bits::{BitPlace, OctetSize};
 use elements::Home;
 use loading::STATE;
-use opened::Taken;
-use userdata::Found;
 
 // Reads an LM.
 #[unsafe(no_mangle)]
@@ -72,8 +70,8 @@ pub extern "C" fn probe_user_data(message: &[u8], numbers: &mut [u64; 6]) {
     let part = userdata::user_data(message).len() as u64;
     let found = userdata::user_data_place(message);
     *numbers = match found {
-        Found::At(span) => [0, 0, span.start.0 as u64, span.length.0 as u64, part, 0],
-        Found::Refused(refusal) => [refusal.number as u64, refusal.place as u64, 0, 0, part, 0],
+        Ok(span) => [0, 0, span.start.0 as u64, span.length.0 as u64, part, 0],
+        Err(refusal) => [refusal.number as u64, refusal.place as u64, 0, 0, part, 0],
     };
 }
 
@@ -88,8 +86,8 @@ pub extern "C" fn probe_open(message: &[u8], numbers: &mut [u64; 6]) {
 pub extern "C" fn probe_take(message: &[u8], place: usize, k: u32, numbers: &mut [u64; 6]) {
     let taken = opened::take_from(message, BitPlace(place), k);
     *numbers = match taken {
-        Taken::Number(number, next) => [0, next.0 as u64, number as u64, 0, 0, 0],
-        Taken::Refused(refusal) => [refusal.number as u64, refusal.place as u64, 0, 0, 0, 0],
+        Ok((number, next)) => [0, next.0 as u64, number as u64, 0, 0, 0],
+        Err(refusal) => [refusal.number as u64, refusal.place as u64, 0, 0, 0, 0],
     };
 }
 
@@ -108,8 +106,7 @@ pub extern "C" fn probe_take_bitwise(message: &[u8], place: usize, k: u32, numbe
     if OctetSize::MOST < message.len() {
         return;
     }
-    let fetched = bitwise::fetch(message, BitPlace(place), k);
-    let Fetched::Bits(number, next) = fetched else {
+    let Some((number, next)) = bitwise::fetch(message, BitPlace(place), k) else {
         return;
     };
     *numbers = [0, next.0 as u64, number as u64, 0, 0, 0];

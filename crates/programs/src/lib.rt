@@ -11,7 +11,7 @@ use machine::{Before, Front};
 use stages::Stage;
 
 // Which program runs, and how far it is.
-#[derive(Clone, Copy)]
+#[derive(Clone, Copy, Debug, PartialEq, Eq)]
 pub enum Progress {
     Bench(Before),
     Capture(Stage),
@@ -37,14 +37,8 @@ pub fn next(progress: Progress, unit: &[u8]) -> Progress
     ensures { result ≡ progress_after progress unit.now }
 {
     match progress {
-        Progress::Bench(before) => {
-            let after = before.after(unit.len());
-            Progress::Bench(after)
-        }
-        Progress::Capture(stage) => {
-            let after = stages::next(stage, unit);
-            Progress::Capture(after)
-        }
+        Progress::Bench(before) => Progress::Bench(before.after(unit.len())),
+        Progress::Capture(stage) => Progress::Capture(stages::next(stage, unit)),
     }
 }
 

@@ -14,9 +14,7 @@ use Rattle.bits.specs.Bits.{unpack, width}
 use Rattle.answer.specs.Numbers.{no_branch, refusal_at}
 use Rattle.answer.specs.declared.Refusal.{Refusal}
 use Rattle.item.specs.Code.{number, index, natural}
-use Rattle.item.specs.Answers.{item_at}
-use Rattle.item.specs.declared.Item.{Item}
-use Rattle.item.specs.declared.Item.TheVariants.{Bad}
+use Rattle.item.specs.Answers.{item_at, Item}
 use Rattle.octets.specs.Numbers.{u16}
 use Rattle.row.proofs.Fits.{number_fits, fixed_fits, counted_fits}
 use Rattle.rules.specs.Rules.{references}
@@ -28,35 +26,29 @@ use Rattle.guard.specs.Readable.{asks_at, asks_from, Readable, Opened}
 use Rattle.guard.proofs.Readable.{Reached, number-asks, reached-opened}
 use Rattle.parts.proofs.Records.{presence-always, presence-optional}
 use Rattle.read_steps.specs.declared.Cursor.{Cursor}
-use Rattle.read_steps.specs.declared.Step.{Step}
-use Rattle.read_steps.specs.declared.Step.TheVariants.{Past, Refused}
-use Rattle.read_begin.specs.declared.Begun.TheVariants.{Run, Numbers, Fields}
-use Rattle.read_steps.specs.Reads.{State, state_at, Reads, Continues, count_of}
+use Rattle.read_steps.specs.Reads.{Step, State, state_at, Reads, Continues}
 use Rattle.read_steps.proofs.Keeping.{Keeping, first_refused, first-kept}
-use Rattle.read_begin.specs.Begins.{whole_of, run_of, Begins, Marks}
-use Rattle.read_steps.proofs.Flow.{continues-trans, continues_same, continues-done, refused-item}
+use Rattle.parts.specs.Left.{run_of}
+use Rattle.read_begin.specs.Begins.{Begins, Marks}
+use Rattle.read_steps.proofs.Flow.{value_of, continues-trans, continues_same, refused-item}
+use Rattle.std.proofs.Common.{Ok, Err}
+use Rattle.parts.specs.declared.Left.TheVariants.{Nothing, Run, Numbers, Fields}
 
 -- ── rows ──
 
--- a row that was read whole leaves nothing
-pub begins-reads : (t : List ℕ) (o : ℕ) {message : List ℕ} {room : ℕ} {p : Items} {from : State} {values : List ℤ} {packed : List ℕ} (step : Step)
-    → Reads message room p from values packed step → Begins t o message room p from values packed (whole_of step)
-begins-reads t o (Past to) r = continues-done r
-begins-reads t o (Refused refusal) r = r
-
 -- a number row alone is a run of one
 pub begins-number : {t : List ℕ} {o : ℕ} → Readable t o → u16 t (o + 2) ≡ 1 → {message : List ℕ} {room : ℕ} {from : State}
-    → Begins t o message room (asks_at t o) from from.values from.packed (Numbers 1 o from.cursor)
+    → Begins t o message room (asks_at t o) from from.values from.packed (Ok (Numbers 1 o, from.cursor))
 unfolding one times
 begins-number h kind = ((number_fits h.row kind).1, continues_same (number-asks h kind))
 
 -- so many times an earlier row: numbers, where it is a number row
 pub begins-run : {t : List ℕ} (o count row : ℕ) → Reached t o row → {message : List ℕ} {room : ℕ} {p : Items} {from : State} {values : List ℤ}
     {packed : List ℕ} {to : Cursor} → Continues message room p from (times count (asks_from t o row)) (state_at to values packed)
-    → Begins t o message room p from values packed (run_of t count row to)
+    → Begins t o message room p from values packed (Ok (run_of t count row, to))
 begins-run {t} o count row reached {message} {room} {p} {from} {values} {packed} {to} f = go (eqb (u16 t (row + 2)) 1) refl
   where
-    go : (b : Bool) → eqb (u16 t (row + 2)) 1 ≡ b → Begins t o message room p from values packed (cond b (Numbers count row to) (Run count row to))
+    go : (b : Bool) → eqb (u16 t (row + 2)) 1 ≡ b → Begins t o message room p from values packed (Ok (cond b (Numbers count row) (Run count row), to))
     go true e =
         let k = eqb-true _ _ e in
         ((number_fits reached.readable.row k).1, continues-trans f (continues_same (ap (times count) (reached.same ∙ number-asks reached.readable k))))
@@ -75,11 +67,11 @@ module _ {t : List ℕ} {o : ℕ} (h : Opened t o) where
   counted-reached k n = reached-opened h n (rw (counted_fits h.readable.row k).0 (0, omega arith, refl))
 
 -- no bits meet an index of no branch
-never_item : (message : List ℕ) (place : ℕ) → item_at (index []) message place ≡ Bad (refusal_at no_branch place)
+never_item : (message : List ℕ) (place : ℕ) → item_at (index []) message place ≡ Err (refusal_at no_branch place)
 unfolding width
 never_item message place = rw (le-leb 0 (length (drop place (unpack message))) (omega arith))
 
-pub never_reads : {message : List ℕ} {room : ℕ} (a : State) {values : List ℤ} {packed : List ℕ} → Reads message room never a values packed (Refused (refusal_at no_branch a.cursor.place.0))
+pub never_reads : {message : List ℕ} {room : ℕ} (a : State) {values : List ℤ} {packed : List ℕ} → Reads message room never a values packed (Err (refusal_at no_branch a.cursor.place.0))
 unfolding one
 never_reads {message} a = refused-item (index []) _ (sym (never_item message a.cursor.place.0)) refl
 
@@ -87,22 +79,22 @@ never_reads {message} a = refused-item (index []) _ (sym (never_item message a.c
 
 -- a field that is always there
 pub marks-always : (flag mask : ℕ) {message : List ℕ} {room : ℕ} {from : State} (marked : ℕ) → flag ≡ 0 → marked ≡ mask * 2 + 1
-    → Marks flag mask message room from from.values from.packed (Fields marked from.cursor)
+    → Marks flag mask message room from from.values from.packed (Ok (marked, from.cursor))
 marks-always flag mask marked ef em =
     let odd : marked % 2 ≡ 1 = omega arith in
     (omega arith, λ flags k. continues_same (rw odd (presence-always flag flags k ef)))
 
 -- what follows the presence bit of an optional field
-abbrev marked_rest : List ℕ → (List Bool → Items) → ℤ → Items
+abbrev pub marked_rest : List ℕ → (List Bool → Items) → ℤ → Items
 marked_rest flags k v = presence flags (λ ps. k (eqb (natural v) 1 ∷ ps))
 
 -- an optional field by its presence bit
 module _ {flag : ℕ} (optional : flag ≢ 0) {message : List ℕ} {room : ℕ} {from : State} {values : List ℤ} {packed : List ℕ} {item : Item} {step : Step}
     (q : Keeping (number (pos 0) 1) message room from values packed item step) where
-  pub marks-refused : {refusal : Refusal} → step ≡ Refused refusal
-      → (flags : List ℕ) (k : List Bool → Items) → Reads message room (presence (flag ∷ flags) k) from values packed (Refused refusal)
+  pub marks-refused : {refusal : Refusal} → step ≡ Err refusal
+      → (flags : List ℕ) (k : List Bool → Items) → Reads message room (presence (flag ∷ flags) k) from values packed (Err refusal)
   marks-refused e flags k = first_refused (number (pos 0) 1) (marked_rest flags k) (presence-optional flag flags k optional) q e
 
-  pub marks-bit : (mask marked : ℕ) {next : Cursor} → step ≡ Past next → marked / 2 ≡ mask → eqb (marked % 2) 1 ≡ eqb (count_of item) 1
-      → Marks flag mask message room from values packed (Fields marked next)
+  pub marks-bit : (mask marked : ℕ) {next : Cursor} → step ≡ Ok next → marked / 2 ≡ mask → eqb (marked % 2) 1 ≡ eqb (natural (value_of item)) 1
+      → Marks flag mask message room from values packed (Ok (marked, next))
   marks-bit mask marked e em eb = (em, λ flags k. rw eb (first-kept (number (pos 0) 1) (marked_rest flags k) (presence-optional flag flags k optional) q e))

@@ -13,17 +13,17 @@ use borrow.Author.Tests.{leb-true, leb-false, le-leb, lt-leb, lt-ltb, le-ltb}
 use Rattle.bits.specs.Bits.{number_of, bits_of, width, unpack}
 use Rattle.bits.specs.Access.{place_at, fetched}
 use Rattle.bits.specs.declared.BitPlace.{BitPlace}
-use Rattle.bits.specs.declared.Fetched.TheVariants.{Bits, Short}
 use Rattle.bits.proofs.Bits.{number_of-take_lt, length-unpack}
 use Rattle.answer.specs.Numbers.{refusal_at, message_ends, above_span, no_branch, bad_length, outside_limits, bad_variable}
+use Rattle.answer.specs.declared.Refusal.{Refusal}
 use Rattle.item.specs.Code.{Code, number, variable, length_within, index, base, least_of, index_width, value_bits, Got, got, bad, provided, bit_field, octet_field, ones_up_to, decode_offset, above, decode_item}
-use Rattle.item.specs.Answers.{item_of}
-use Rattle.read_item.specs.Steps.{front_of, bounded_length}
+use Rattle.item.specs.Answers.{item_of, Item}
+use Rattle.read_item.specs.Steps.{front_of, front_read, bounded_length}
 use Rattle.item.specs.Steps.{leading_worth}
-use Rattle.item.specs.declared.Item.{Item}
-use Rattle.item.specs.declared.Item.TheVariants.{Value, Bad}
+use Rattle.item.proofs.Returned.{ok_or-Ok, ok_or-Err}
 use Rattle.item.proofs.CodeLaws.{decode_item-sound, base-top}
 use Rattle.item.proofs.Leading.{ones-front, ones-fewer, number_of-spelt}
+use Rattle.std.proofs.Common.{Ok, Err, Option, Some, None}
 
 -- ── the first bits ──
 
@@ -35,39 +35,54 @@ pub record Front (b : List Bool) (p k n : ℕ) (q : BitPlace) : Type 0 where
   pub below : n < 2 ^ k
 
 module _ (b : List Bool) (p k : ℕ) where
-  pub front_inside : k ≤ length b → front_of b p k ≡ Bits (number_of (take k b)) (place_at (p + k))
+  pub front_inside : k ≤ length b → front_of b p k ≡ Some (number_of (take k b), place_at (p + k))
   front_inside h = rw (le-leb k (length b) h)
 
-  pub front_past_end : length b < k → front_of b p k ≡ Short
+  pub front_past_end : length b < k → front_of b p k ≡ None
   front_past_end h = rw (lt-leb k (length b) h)
 
-  pub front-Short : front_of b p k ≡ Short → length b < k
+  pub front-Short : front_of b p k ≡ None → length b < k
   front-Short e = go (leb k (length b)) refl e
     where
-      go : (t : Bool) → leb k (length b) ≡ t → cond t (Bits (number_of (take k b)) (place_at (p + k))) Short ≡ Short → length b < k
+      go : (t : Bool) → leb k (length b) ≡ t → cond {A = Option (ℕ × BitPlace)} t (Some (number_of (take k b), place_at (p + k))) None ≡ None → length b < k
       go true l e = let z : ◌≡◌ {A = ℕ} 0 1 = cc in absurd (omega arith)
       go false l e = leb-false k (length b) l
 
-  pub front-Bits : {n : ℕ} {q : BitPlace} → front_of b p k ≡ Bits n q → Front b p k n q
+  pub front-Bits : {n : ℕ} {q : BitPlace} → front_of b p k ≡ Some (n, q) → Front b p k n q
   front-Bits {n} {q} e = go (leb k (length b)) refl e
     where
-      go : (t : Bool) → leb k (length b) ≡ t → cond t (Bits (number_of (take k b)) (place_at (p + k))) Short ≡ Bits n q → Front b p k n q
+      go : (t : Bool) → leb k (length b) ≡ t → cond {A = Option (ℕ × BitPlace)} t (Some (number_of (take k b), place_at (p + k))) None ≡ Some (n, q) → Front b p k n q
       go true l e =
-          let s : number_of (take k b) ≡ n = cc in
+          let both : ◌≡◌ {A = ℕ × BitPlace} (number_of (take k b), place_at (p + k)) (n, q) = cc in
+          let s : number_of (take k b) ≡ n = ap (λ (x : ℕ × BitPlace). x.0) both in
           record {
             inside = leb-true k (length b) l;
             spells = s;
-            after = cc;
+            after = ap (λ (x : ℕ × BitPlace). x.1) both;
             below = rw s at (number_of-take_lt k k b (omega arith));
           }
       go false l e = let z : ◌≡◌ {A = ℕ} 0 1 = cc in absurd (omega arith)
+
+-- as the code answers, where they are there and where not
+module _ (b : List Bool) (p k : ℕ) where
+  pub front_there : {x : ℕ × BitPlace} → front_of b p k ≡ Some x → Ok x ≡ front_read b p k
+  front_there e = rw e
+
+  pub front_missing : front_of b p k ≡ None → Err (refusal_at message_ends p) ≡ front_read b p k
+  front_missing e = rw e
+
+  pub front-Ok : {x : ℕ × BitPlace} → front_read b p k ≡ Ok x → front_of b p k ≡ Some x
+  front-Ok e = ok_or-Ok (front_of b p k) (refusal_at message_ends p) e
+
+  pub front-Err : {e : Refusal} → front_read b p k ≡ Err e → (front_of b p k ≡ None) × (refusal_at message_ends p ≡ e)
+  front-Err e = ok_or-Err (front_of b p k) (refusal_at message_ends p) e
 
 -- a fetch is of the first bits, but for no bits at a place past the end
 pub fetched-front : (m : List ℕ) (p k : ℕ) → 0 < k → fetched m p k ≡ front_of (drop p (unpack m)) p k
 fetched-front m p k h = go (leb (p + k) (8 * length m)) refl
   where
     go : (t : Bool) → leb (p + k) (8 * length m) ≡ t
-        → cond t (Bits (number_of (take k (drop p (unpack m)))) (place_at (p + k))) Short ≡ front_of (drop p (unpack m)) p k
+        → cond t (Some (number_of (take k (drop p (unpack m))), place_at (p + k))) None ≡ front_of (drop p (unpack m)) p k
     go true e =
         let l = leb-true (p + k) (8 * length m) e in
         sym (front_inside (drop p (unpack m)) p k (rw (length-drop, length-unpack) (omega arith)))
@@ -77,26 +92,26 @@ fetched-front m p k h = go (leb (p + k) (8 * length m)) refl
 
 -- ── a reading as the code answers it ──
 
-pub item_refused : (c : Code) (b : List Bool) (p : ℕ) {n : ℕ} → decode_item c b ≡ bad n → item_of c p (decode_item c b) ≡ Bad (refusal_at n p)
+pub item_refused : (c : Code) (b : List Bool) (p : ℕ) {n : ℕ} → decode_item c b ≡ bad n → item_of c p (decode_item c b) ≡ Err (refusal_at n p)
 item_refused c b p e = rw e
 
 -- the place after an item follows from what is left of the bits
 pub item-read : (c : Code) (b : List Bool) (p k : ℕ) {v : ℤ} {q : BitPlace}
-    → decode_item c b ≡ got v (drop k b) → k ≤ length b → place_at (p + k) ≡ q → item_of c p (decode_item c b) ≡ Value v q
+    → decode_item c b ≡ got v (drop k b) → k ≤ length b → place_at (p + k) ≡ q → item_of c p (decode_item c b) ≡ Ok (v, q)
 item-read c b p k {v} {q} e l a =
     let s = decode_item-sound c b e in
     let w : length (value_bits c v) + length (drop k b) ≡ length b = sym (ap length s.1 ∙ length-append (value_bits c v) (drop k b)) in
     let n : length (value_bits c v) ≡ k = omega (arith, rw length-drop at w) in
-    rw (e, n) (ap (Value v) a)
+    rw (e, n) (ap (λ (z : BitPlace). Ok (v, z)) a)
 
 -- ── a number ──
 
 -- k bits, and what is made of them
 module _ {A : Type 0} (b : List Bool) (p k : ℕ) (f : ℕ → List Bool → Got A) where
-  field-short : front_of b p k ≡ Short → bit_field k b f ≡ bad message_ends
+  field-short : front_of b p k ≡ None → bit_field k b f ≡ bad message_ends
   field-short e = rw (lt-leb k (length b) (front-Short b p k e))
 
-  field_is : {n : ℕ} {q : BitPlace} → front_of b p k ≡ Bits n q → bit_field k b f ≡ f n (drop k b)
+  field_is : {n : ℕ} {q : BitPlace} → front_of b p k ≡ Some (n, q) → bit_field k b f ≡ f n (drop k b)
   field_is e = let front = front-Bits b p k e in rw (le-leb k (length b) front.inside, front.spells)
 
 module _ (low : ℤ) (span : ℕ) (b : List Bool) (p : ℕ) where
@@ -106,14 +121,14 @@ module _ (low : ℤ) (span : ℕ) (b : List Bool) (p : ℕ) where
   abbrev number_value : ℕ → List Bool → Got ℕ
   number_value n r = provided (leb n span) above_span (got n r)
 
-  pub number_short : front_of b p (width span) ≡ Short → number_reading ≡ Bad (refusal_at message_ends p)
+  pub number_short : front_of b p (width span) ≡ None → number_reading ≡ Err (refusal_at message_ends p)
   number_short e = rw (field-short b p (width span) number_value e)
 
-  module _ {n : ℕ} {q : BitPlace} (e : front_of b p (width span) ≡ Bits n q) where
-    pub number-over : span < n → number_reading ≡ Bad (refusal_at above_span p)
+  module _ {n : ℕ} {q : BitPlace} (e : front_of b p (width span) ≡ Some (n, q)) where
+    pub number-over : span < n → number_reading ≡ Err (refusal_at above_span p)
     number-over h = rw (field_is b p (width span) number_value e, lt-leb n span h)
 
-    pub number_is : n ≤ span → number_reading ≡ Value (low +ℤ pos n) q
+    pub number_is : n ≤ span → number_reading ≡ Ok (low +ℤ pos n, q)
     number_is h =
         let front = front-Bits b p (width span) e in
         let d : decode_item (number low span) b ≡ got (low +ℤ pos n) (drop (width span) b) =
@@ -162,7 +177,7 @@ module _ {A : Type 0} (top form : ℕ) (b : List Bool) (f : ℕ → ℕ → List
           }
 
 -- the first octet tells the ones
-module _ (b : List Bool) (p : ℕ) {first : ℕ} {next : BitPlace} (e : front_of b p 8 ≡ Bits first next) where
+module _ (b : List Bool) (p : ℕ) {first : ℕ} {next : BitPlace} (e : front_of b p 8 ≡ Some (first, next)) where
   first_room : 8 ≤ length b
   first_room = (front-Bits b p 8 e).inside
 
@@ -178,22 +193,22 @@ module _ (b : List Bool) (p : ℕ) where
   abbrev variable_value : ℕ → ℕ → List Bool → Got ℕ
   variable_value c m r = got (base c + m) r
 
-  pub variable-short : front_of b p 8 ≡ Short → variable_reading ≡ Bad (refusal_at message_ends p)
+  pub variable-short : front_of b p 8 ≡ None → variable_reading ≡ Err (refusal_at message_ends p)
   variable-short e = rw (octet-short 4 bad_variable b variable_value (front-Short b p 8 e))
 
-  module _ {first : ℕ} {next : BitPlace} (e : front_of b p 8 ≡ Bits first next) (c : ℕ) (o : c ≡ ones_up_to 4 (bits_of 8 first)) where
+  module _ {first : ℕ} {next : BitPlace} (e : front_of b p 8 ≡ Some (first, next)) (c : ℕ) (o : c ≡ ones_up_to 4 (bits_of 8 first)) where
     variable-ones : ones_up_to 4 b ≡ c
     variable-ones = sym (o ∙ first_ones b p e)
 
-    pub variable-starts_1111 : 3 < c → variable_reading ≡ Bad (refusal_at bad_variable p)
+    pub variable-starts_1111 : 3 < c → variable_reading ≡ Err (refusal_at bad_variable p)
     variable-starts_1111 h = rw (octet-form 4 bad_variable b variable_value (first_room b p e) (omega (arith, variable-ones)))
 
     module _ (small : c ≤ 3) where
-      pub variable-cut : front_of b p (8 * suc c) ≡ Short → variable_reading ≡ Bad (refusal_at message_ends p)
+      pub variable-cut : front_of b p (8 * suc c) ≡ None → variable_reading ≡ Err (refusal_at message_ends p)
       variable-cut s = rw (octet-cut 4 bad_variable b variable_value (first_room b p e) c variable-ones (omega arith) (omega arith) (front-Short b p (8 * suc c) s))
 
-      pub variable_is : {k l a n : ℕ} {q : BitPlace} → (k ≡ 8 * suc c) × (l ≡ leading_worth c) × (a ≡ base c) → front_of b p k ≡ Bits n q
-          → (l ≤ n) × (a + (n - l) ≤ 270549119) × (variable_reading ≡ Value (pos (a + (n - l))) q)
+      pub variable_is : {k l a n : ℕ} {q : BitPlace} → (k ≡ 8 * suc c) × (l ≡ leading_worth c) × (a ≡ base c) → front_of b p k ≡ Some (n, q)
+          → (l ≤ n) × (a + (n - l) ≤ 270549119) × (variable_reading ≡ Ok (pos (a + (n - l)), q))
       variable_is {k} {l} {a} {n} {q} form s =
           let front = rw form.0 at (front-Bits b p k s) in
           let spelt = rw front.spells at (octet_is 4 bad_variable b variable_value (first_room b p e) c variable-ones (omega arith) (omega arith) front.inside) in
@@ -204,10 +219,10 @@ module _ (b : List Bool) (p : ℕ) where
             item-read variable b p (8 * suc c) d front.inside front.after,
           )
 
-    pub variable_one_octet : c ≡ 0 → variable_reading ≡ Value (pos first) next
+    pub variable_one_octet : c ≡ 0 → variable_reading ≡ Ok (pos first, next)
     unfolding leading_worth
     variable_one_octet z =
-        let e' : front_of b p (8 * suc c) ≡ Bits first next = rw z e in
+        let e' : front_of b p (8 * suc c) ≡ Some (first, next) = rw z e in
         let v = (variable_is (omega arith) (refl, refl, refl) e').2 in
         let n : base c + (first - leading_worth c) ≡ first = rw z (omega arith) in
         rw n at v
@@ -217,7 +232,7 @@ module _ (b : List Bool) (p : ℕ) where
 -- where a test decides between the value and a refusal
 tested : (c : Code) (b : List Bool) (p k : ℕ) (t : Bool) (n m : ℕ) {q : BitPlace}
     → decode_item c b ≡ above (pos 0) (provided t n (got m (drop k b))) → k ≤ length b → place_at (p + k) ≡ q
-    → item_of c p (decode_item c b) ≡ cond t (Value (pos m) q) (Bad (refusal_at n p))
+    → item_of c p (decode_item c b) ≡ cond t (Ok (pos m, q)) (Err (refusal_at n p))
 tested c b p k true n m e l a = item-read c b p k (rw (zero-add m) at e) l a
 tested c b p k false n m e l a = item_refused c b p e
 
@@ -228,24 +243,24 @@ module _ (least most : ℕ) (b : List Bool) (p : ℕ) where
   abbrev length_value : ℕ → ℕ → List Bool → Got ℕ
   length_value c m r = provided (leb (least_of c) m) bad_length (provided (leb least m && leb m most) outside_limits (got m r))
 
-  pub length-short : front_of b p 8 ≡ Short → length_reading ≡ Bad (refusal_at message_ends p)
+  pub length-short : front_of b p 8 ≡ None → length_reading ≡ Err (refusal_at message_ends p)
   length-short e = rw (octet-short 2 bad_length b length_value (front-Short b p 8 e))
 
-  module _ {first : ℕ} {next : BitPlace} (e : front_of b p 8 ≡ Bits first next) (c : ℕ) (o : c ≡ ones_up_to 4 (bits_of 8 first)) where
+  module _ {first : ℕ} {next : BitPlace} (e : front_of b p 8 ≡ Some (first, next)) (c : ℕ) (o : c ≡ ones_up_to 4 (bits_of 8 first)) where
     length-ones : ones_up_to 2 b ≡ min 2 c
     length-ones = ones-fewer 2 4 b (omega arith) ∙ ap (min 2) (sym (o ∙ first_ones b p e))
 
-    pub length-starts_11 : 1 < c → length_reading ≡ Bad (refusal_at bad_length p)
+    pub length-starts_11 : 1 < c → length_reading ≡ Err (refusal_at bad_length p)
     length-starts_11 h = rw (octet-form 2 bad_length b length_value (first_room b p e) (omega (arith, length-ones)))
 
     module _ (small : c ≤ 1) where
       ones-few : ones_up_to 2 b ≡ c
       ones-few = omega (arith, length-ones)
 
-      pub length_cut : front_of b p (8 * suc c) ≡ Short → length_reading ≡ Bad (refusal_at message_ends p)
+      pub length_cut : front_of b p (8 * suc c) ≡ None → length_reading ≡ Err (refusal_at message_ends p)
       length_cut s = rw (octet-cut 2 bad_length b length_value (first_room b p e) c ones-few (omega arith) (omega arith) (front-Short b p (8 * suc c) s))
 
-      module _ {k l a n : ℕ} {q : BitPlace} (form : (k ≡ 8 * suc c) × (l ≡ leading_worth c) × (a ≡ base c)) (s : front_of b p k ≡ Bits n q) where
+      module _ {k l a n : ℕ} {q : BitPlace} (form : (k ≡ 8 * suc c) × (l ≡ leading_worth c) × (a ≡ base c)) (s : front_of b p k ≡ Some (n, q)) where
         length_front : Front b p (8 * suc c) n q
         length_front = rw form.0 at (front-Bits b p k s)
 
@@ -263,7 +278,7 @@ module _ (least most : ℕ) (b : List Bool) (p : ℕ) where
             m = n - leading_worth c
 
             go : (t : Bool) → leb (least_of c) m ≡ t
-                → length_reading ≡ cond t (cond (leb least m && leb m most) (Value (pos m) q) (Bad (refusal_at outside_limits p))) (Bad (refusal_at bad_length p))
+                → length_reading ≡ cond t (cond (leb least m && leb m most) (Ok (pos m, q)) (Err (refusal_at outside_limits p))) (Err (refusal_at bad_length p))
             go true h =
                 tested (length_within least most) b p (8 * suc c) (leb least m && leb m most) outside_limits m (rw (length-spelt.then, h)) length_front.inside length_front.after
             go false h = rw (length-spelt.then, h)
@@ -271,7 +286,7 @@ module _ (least most : ℕ) (b : List Bool) (p : ℕ) where
     pub length_one_octet : c ≡ 0 → length_reading ≡ bounded_length p first next 0 least most
     unfolding leading_worth
     length_one_octet z =
-        let e' : front_of b p (8 * suc c) ≡ Bits first next = rw z e in
+        let e' : front_of b p (8 * suc c) ≡ Some (first, next) = rw z e in
         let n : first - leading_worth c ≡ first = rw z (omega arith) in
         let s : least_of c ≡ 0 = rw z in
         rw (n, s) at (length_is (omega arith) (refl, refl, refl) e')
@@ -285,11 +300,11 @@ module _ (branches b : List Bool) (p : ℕ) where
   abbrev index_value : ℕ → List Bool → Got ℕ
   index_value n r = provided (get_or branches n false) no_branch (got n r)
 
-  pub index_short : front_of b p (index_width branches) ≡ Short → index_reading ≡ Bad (refusal_at message_ends p)
+  pub index_short : front_of b p (index_width branches) ≡ None → index_reading ≡ Err (refusal_at message_ends p)
   index_short e = rw (field-short b p (index_width branches) index_value e)
 
-  pub index_is : {n : ℕ} {q : BitPlace} → front_of b p (index_width branches) ≡ Bits n q
-      → index_reading ≡ cond (get_or branches n false) (Value (pos n) q) (Bad (refusal_at no_branch p))
+  pub index_is : {n : ℕ} {q : BitPlace} → front_of b p (index_width branches) ≡ Some (n, q)
+      → index_reading ≡ cond (get_or branches n false) (Ok (pos n, q)) (Err (refusal_at no_branch p))
   index_is {n} e =
       let front = front-Bits b p (index_width branches) e in
       tested (index branches) b p (index_width branches) (get_or branches n false) no_branch

@@ -9,9 +9,9 @@ use lib.Seq.{drop-cons, take_at}
 use borrow.Author.Tests.{le-leb}
 use Rattle.bits.specs.Bits.{bits_of, unpack}
 use Rattle.bits.specs.Access.{place_at}
-use Rattle.bits.specs.declared.Fetched.TheVariants.{Bits}
 use Rattle.bits.proofs.Bits.{length-bits_of, number_of-bits_of, unpack-drop}
 use Rattle.read_item.specs.Steps.{front_of}
+use Rattle.std.proofs.Common.{Some}
 
 module _ (m : List ℕ) (i : ℕ) (inside : i < length m) where
   abbrev after : List Bool
@@ -21,7 +21,7 @@ module _ (m : List ℕ) (i : ℕ) (inside : i < length m) where
   unfolding unpack
   drop_before = sym (unpack-drop i m (omega arith)) ∙ ap unpack (drop-cons m i 0 inside)
 
-  pub front-octet : get_or m i 0 < 256 → front_of (drop (8 * i) (unpack m)) (8 * i) 8 ≡ Bits (get_or m i 0) (place_at (8 * i + 8))
+  pub front-octet : get_or m i 0 < 256 → front_of (drop (8 * i) (unpack m)) (8 * i) 8 ≡ Some (get_or m i 0, place_at (8 * i + 8))
   front-octet h =
       let o = get_or m i 0 in
       rw (

@@ -11,7 +11,8 @@ ghost use Rattle.items.specs.Items.{one, times};
 ghost use Rattle.encoding.specs.Rows.{octets_within};
 ghost use Rattle.read_steps.specs.Reads.{Reads, state_at};
 
-use read_steps::{Cursor, Step};
+use answer::Refusal;
+use read_steps::Cursor;
 use row::Row;
 
 // A number row.
@@ -23,14 +24,14 @@ pub fn number(
     packed: &mut [u8],
     room: usize,
     cursor: Cursor,
-) -> Step
+) -> Result<Cursor, Refusal>
     requires { (at + 12 ≤ length table.now) × (length message.now ≤ most_octets) }
     ensures { Reads message.now room (one (Code.number (signed (u32 table.now (at + 4))) (u32 table.now (at + 8)))) (state_at cursor values.old packed.old) values.new packed.new result }
 {
     let low = Row::low_at(table, at);
     let span = Row::span_at(table, at);
-    let item = read_item::number(&*message, cursor.place, low, span as u32);
-    read_steps::kept(item, values, packed, room, cursor)
+    let (value, next) = read_item::number(&*message, cursor.place, low, span as u32)?;
+    read_steps::keep(value, next, values, packed, room, cursor)
 }
 
 // So many numbers of one number row. Where they are octets, as a run of octets.
@@ -43,7 +44,7 @@ pub fn numbers(
     packed: &mut [u8],
     room: usize,
     cursor: Cursor,
-) -> Step
+) -> Result<Cursor, Refusal>
     requires { (at + 12 ≤ length table.now) × (length message.now ≤ most_octets) }
     ensures { Reads message.now room (times count (one (Code.number (signed (u32 table.now (at + 4))) (u32 table.now (at + 8))))) (state_at cursor values.old packed.old) values.new packed.new result }
 {
@@ -73,12 +74,12 @@ pub fn variable(
     packed: &mut [u8],
     room: usize,
     cursor: Cursor,
-) -> Step
+) -> Result<Cursor, Refusal>
     requires { length message.now ≤ most_octets }
     ensures { Reads message.now room (one Code.variable) (state_at cursor values.old packed.old) values.new packed.new result }
 {
-    let item = read_item::variable(&*message, cursor.place);
-    read_steps::kept(item, values, packed, room, cursor)
+    let (value, next) = read_item::variable(&*message, cursor.place)?;
+    read_steps::keep(value, next, values, packed, room, cursor)
 }
 
 // A row of octets: a length within the row's limits, then each octet.
@@ -90,18 +91,15 @@ pub fn octets(
     packed: &mut [u8],
     room: usize,
     cursor: Cursor,
-) -> Step
+) -> Result<Cursor, Refusal>
     requires { (at + 6 ≤ length table.now) × (length message.now ≤ most_octets) }
     ensures { Reads message.now room (octets_within (least_length (u16 table.now (at + 2))) (u16 table.now (at + 4))) (state_at cursor values.old packed.old) values.new packed.new result }
 {
     let kind = Row::kind_at(table, at);
     let least = Row::least_length(kind);
     let most = Row::count_at(table, at);
-    let item = read_item::length(&*message, cursor.place, least, most as u32);
-    let step = read_steps::kept(item, values, packed, room, cursor);
-    let Step::Past(next) = step else {
-        return step;
-    };
-    let count = read_steps::count_of(item);
+    let (length, first) = read_item::length(&*message, cursor.place, least, most as u32)?;
+    let next = read_steps::keep(length, first, values, packed, room, cursor)?;
+    let count = item::count_of(length);
     read_steps::read_octets(count, &*message, values, packed, room, next)
 }

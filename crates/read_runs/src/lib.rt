@@ -36,10 +36,8 @@ fn read_fours(message: &[u8], from: usize, into: u32, fours: usize, values: &mut
     requires { (into < 8) × (32 * fours ≤ 8 * length message.now - (8 * from + into)) × (length message.now ≤ most_octets) × (4 * fours ≤ length values.old - at) }
     ensures { values.new ≡ store_all set values.old at (octet_values (4 * fours) (drop (8 * from + into) (unpack message.now))) }
 {
-    let mut done = 0;
-    while done < fours {
+    for done in 0..fours {
         read_four(message, from + 4 * done, into, values, at + 4 * done);
-        done += 1;
     }
 }
 
@@ -57,11 +55,9 @@ pub fn read_numbers(
 {
     let fit = values::fitting(values.len(), at, count);
     let fours = fit / 4;
-    read_fours(&*message, from, into, fours, values, at);
-    let mut done = fours * 4;
-    while done < fit {
+    read_fours(message, from, into, fours, values, at);
+    for done in fours * 4..fit {
         values[at + done] = access::octet_at(message, from + done, into) as i64;
-        done += 1;
     }
 }
 
@@ -93,10 +89,8 @@ fn packed_fours(message: &[u8], from: usize, into: u32, fours: usize, packed: &m
     requires { (into < 8) × (32 * fours ≤ 8 * length message.now - (8 * from + into)) × (length message.now ≤ most_octets) × (4 * fours ≤ length packed.old / 8 - at) }
     ensures { packed.new ≡ store_all set_value packed.old at (octet_values (4 * fours) (drop (8 * from + into) (unpack message.now))) }
 {
-    let mut done = 0;
-    while done < fours {
+    for done in 0..fours {
         packed_four(message, from + 4 * done, into, packed, at + 4 * done);
-        done += 1;
     }
 }
 
@@ -114,12 +108,10 @@ pub fn read_packed(
 {
     let fit = values::fitting(packed.len() / 8, at, count);
     let fours = fit / 4;
-    packed_fours(&*message, from, into, fours, packed, at);
-    let mut done = fours * 4;
-    while done < fit {
+    packed_fours(message, from, into, fours, packed, at);
+    for done in fours * 4..fit {
         let octet = access::octet_at(message, from + done, into);
         values::store_value(packed, at + done, octet as i64);
-        done += 1;
     }
 }
 
@@ -135,8 +127,8 @@ pub fn read(
     requires { (8 * count ≤ 8 * length message.now - place.0) × (length message.now ≤ most_octets) }
     ensures { (values.new ≡ store_all set values.old at (octet_values count (drop place.0 (unpack message.now)))) × (packed.new ≡ store_all set_value packed.old at (octet_values count (drop place.0 (unpack message.now)))) }
 {
-    let first = BitPlace::octets_before(place);
-    let into = BitPlace::bits_into_octet(place);
+    let first = place.octets_before();
+    let into = place.bits_into_octet();
     read_numbers(message, first.0, into, count, values, at);
     read_packed(message, first.0, into, count, packed, at);
 }

@@ -14,16 +14,15 @@ use Rattle.bits.specs.Access.{place_at}
 use Rattle.bits.proofs.Bits.{length-unpack, number_of-take_lt}
 use Rattle.item.specs.Code.{number}
 use Rattle.item.specs.Answers.{item_at}
-use Rattle.item.specs.declared.Item.TheVariants.{Value}
 use Rattle.read_item.proofs.Outcomes.{front_inside, number_is}
 use Rattle.values.specs.Values.{set_value, store_all}
 use Rattle.read_runs.specs.Runs.{octet_values}
 use Rattle.items.specs.Items.{Items, one, times}
 use Rattle.read_steps.specs.Reads.{cursor_at, State, state_at, Continues}
-use Rattle.read_steps.specs.declared.Step.TheVariants.{Past}
 use Rattle.read_steps.proofs.Flow.{continues-trans, continues_same}
 use Rattle.read_steps.proofs.Keeping.{keeping, first-kept}
 use Rattle.items.proofs.Runs.{run_first}
+use Rattle.std.proofs.Common.{Ok}
 
 abbrev pub octets : ℕ → Items
 octets n = times n (one (number (pos 0) 255))
@@ -33,14 +32,14 @@ module _ (message : List ℕ) (room : ℕ) where
   abbrev octet : ℕ → ℤ
   octet p = pos (number_of (take 8 (drop p (unpack message))))
 
-  octet_is : (p : ℕ) → p + 8 ≤ 8 * length message → item_at (number (pos 0) 255) message p ≡ Value (octet p) (place_at (p + 8))
+  octet_is : (p : ℕ) → p + 8 ≤ 8 * length message → item_at (number (pos 0) 255) message p ≡ Ok (octet p, place_at (p + 8))
   unfolding width
   octet_is p h =
       let b = drop p (unpack message) in
       let n = number_of (take 8 b) in
       let long : 8 ≤ length b = omega (arith, length-drop p (unpack message), length-unpack message) in
       let small : n < 256 = number_of-take_lt 8 8 b (omega arith) in
-      number_is (pos 0) 255 b p (front_inside b p 8 long) (omega arith) ∙ ap (λ (k : ℕ). Value (pos k) (place_at (p + 8))) (zero-add n)
+      number_is (pos 0) 255 b p (front_inside b p 8 long) (omega arith) ∙ ap (λ (k : ℕ). Ok (pos k, place_at (p + 8))) (zero-add n)
 
   -- a state n octets further on
   abbrev further : ℕ → State → State
@@ -61,12 +60,11 @@ module _ (message : List ℕ) (room : ℕ) where
       let v = octet p in
       let next = state_at (cursor_at (p + 8) (suc i)) (set s.values i v) (set_value s.packed i v) in
       let is = octet_is p (omega arith) in
-      let item = Value v (place_at (p + 8)) in
       let g : i + 1 ≡ suc i = omega arith in
       let fits = lt-leb room i (omega arith) in
       let first : Continues message room (octets (suc n + left)) s (octets (n + left)) next =
       first-kept (number (pos 0) 255) (λ v. octets (n + left)) (run_first (number (pos 0) 255) (suc n + left) (n + left) (omega arith))
-      (keeping (number (pos 0) 255) refl (sym is) (rw fits (refl, refl, refl))) (ap (λ (k : ℕ). Past (cursor_at (p + 8) k)) g) in
+      (keeping (number (pos 0) 255) refl (sym is) (rw fits (refl, refl, refl))) (ap (λ (k : ℕ). Ok (cursor_at (p + 8) k)) g) in
       let rest : Continues message room (octets (n + left)) next (octets left) (further n next) =
       continues-octets n left next (omega arith) (omega arith) in
       let e : p + 8 + 8 * n ≡ p + 8 * suc n = omega arith in

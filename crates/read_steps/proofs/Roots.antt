@@ -13,11 +13,9 @@ use lib.IntN.{ℤ}
 use lib.ListN.{length, drop, set, length-append}
 use lib.Seq.{drop_at}
 use borrow.Author.Tests.{eq-eqb, ne_eqb}
-use Rattle.answer.specs.Numbers.{refusal_at, accepted, refused}
+use Rattle.answer.specs.Numbers.{refusal_at, accepted, refused, Answer}
 use Rattle.bits.specs.Bits.{number_of, unpack}
 use Rattle.bits.proofs.Bits.{length-unpack}
-use Rattle.answer.specs.declared.Answer.{Answer}
-use Rattle.answer.specs.declared.Answer.TheVariants.{Refused}
 use Rattle.answer.specs.declared.Refusal.{Refusal}
 use Rattle.values.specs.Values.{set_value, store_all}
 use Rattle.items.specs.Items.{Items, encoding_bits}
@@ -27,10 +25,9 @@ use Rattle.items.specs.Walk.{forget, walk}
 use Rattle.items.proofs.Messages.{decode-close}
 use Rattle.items.proofs.ReadItems.{read-sound}
 use Rattle.read_steps.specs.declared.Cursor.{Cursor}
-use Rattle.read_steps.specs.declared.Step.{Step}
-use Rattle.read_steps.specs.declared.Step.TheVariants.{Past, Refused as StepRefused}
-use Rattle.read_steps.specs.Reads.{cursor_at, state_at, Agrees, Reads}
+use Rattle.read_steps.specs.Reads.{Step, cursor_at, state_at, Agrees, Reads}
 use Rattle.read_steps.specs.Ends.{KeptBy, closed}
+use Rattle.std.proofs.Common.{Ok, Err}
 
 -- bits that spell 0 are all zero, and no others
 zero_bits : (b : List Bool) → number_of b ≡ 0 → all_zero b ≡ true
@@ -74,12 +71,12 @@ module _ (p : Items) (s : List ℕ) (room : ℕ) (old new : List ℤ) (old_packe
       subst (λ (y : Reading). Agrees 0 old new old_packed new_packed step (forget y)) (ap (λ r. read_items p (unpack s) r 0) (sub-zero room) ∙ e) reads.agrees
 
   -- a refused root
-  pub root-refused : (refusal : Refusal) → step ≡ StepRefused refusal → Comes (decode p s room) (Refused refusal)
+  pub root-refused : (refusal : Refusal) → step ≡ Err refusal → Comes (decode p s room) (Err refusal)
   root-refused refusal e = rw (decode-close p s room some) (go (read_items p (unpack s) room 0) (by_reading (read_items p (unpack s) room 0) refl))
     where
-      go : (x : Reading) → Agrees 0 old new old_packed new_packed step (forget x) → Comes (close_read (length s) x) (Refused refusal)
+      go : (x : Reading) → Agrees 0 old new old_packed new_packed step (forget x) → Comes (close_read (length s) x) (Err refusal)
       go (done vs at r) a = let z : ◌≡◌ {A = ℕ} 0 1 = cc a.answer in absurd (omega arith)
-      go (stuck by) a = let q : StepRefused by ≡ StepRefused refusal = sym a.answer ∙ e in (cc, tt, tt)
+      go (stuck by) a = let q : Err by ≡ Err refusal = sym a.answer ∙ e in (cc, tt, tt)
 
   either : (t : Bool) (vs : List ℤ) (at : ℕ) → new ≡ store_all set old 0 vs → new_packed ≡ store_all set_value old_packed 0 vs
       → Comes (cond t (accept vs at) (refuse (refusal_at 9 at))) (cond t (accepted (length vs) at 0) (refused 9 at))
@@ -87,7 +84,7 @@ module _ (p : Items) (s : List ℕ) (room : ℕ) (old new : List ℤ) (old_packe
   either false vs at k l = (refl, tt, tt)
 
   -- a root that ends at a cursor
-  pub root-read : (c : Cursor) → step ≡ Past c → (c.place.0 ≤ 8 * length s) × Comes (decode p s room) (closed s c)
+  pub root-read : (c : Cursor) → step ≡ Ok c → (c.place.0 ≤ 8 * length s) × Comes (decode p s room) (closed s c)
   root-read c e = go (read_items p (unpack s) room 0) refl (by_reading (read_items p (unpack s) room 0) refl)
     where
       go : (x : Reading) → read_items p (unpack s) room 0 ≡ x → Agrees 0 old new old_packed new_packed step (forget x)
@@ -96,7 +93,7 @@ module _ (p : Items) (s : List ℕ) (room : ℕ) (old new : List ℤ) (old_packe
       go (done vs at r) q a =
           let b = unpack s in
           let so = read-sound p b room 0 vs at r q in
-          let ec : cursor_at at (0 + length vs) ≡ c = (let y : Past (cursor_at at (0 + length vs)) ≡ Past c = sym a.answer ∙ e in cc) in
+          let ec : cursor_at at (0 + length vs) ≡ c = (let y : Ok (cursor_at at (0 + length vs)) ≡ Ok c = sym a.answer ∙ e in cc) in
           let ep : c.place.0 ≡ at = sym (ap (λ (x : Cursor). x.place.0) ec) in
           let en : c.count ≡ length vs = sym (ap (λ (x : Cursor). x.count) ec) ∙ zero-add (length vs) in
           let ea : at ≡ length (encoding_bits p vs) = so.ends ∙ zero-add _ in

@@ -1,16 +1,12 @@
 -- The close of a message, and what reading leaves in the lent slices before their rest is zeroed. No contract of a public call
 -- cites this file.
-use Rattle.std.specs.Prelude.{ℕ, cond, ◌&&◌, ◌≡◌, List, eqb, ℤ, length, drop}
+use Rattle.std.specs.Prelude.{ℕ, cond, ◌&&◌, ◌≡◌, List, eqb, ℤ, length, drop, Ok, Err}
 use Rattle.bits.specs.Bits.{unpack}
-use Rattle.answer.specs.Numbers.{accepted, refused, not_padding}
-use Rattle.answer.specs.declared.Answer.{Answer}
-use Rattle.answer.specs.declared.Answer.TheVariants.{Accepted, Refused}
+use Rattle.answer.specs.Numbers.{accepted, refused, not_padding, Answer}
 use Rattle.values.specs.Values.{store_all}
 use Rattle.items.specs.Encoding.{size}
 use Rattle.items.specs.Reading.{ReadOutcome, accept, refuse, all_zero}
 use Rattle.read_steps.specs.declared.Cursor.{Cursor}
-use Rattle.read_steps.specs.declared.Step.{Step}
-use Rattle.read_steps.specs.declared.Step.TheVariants.{Past, Refused as StepRefused}
 
 -- an accepted outcome's values are kept from the slice's start on; a refusal leaves anything
 abbrev pub KeptBy : {A : Type 0} → (List A → ℕ → ℤ → List A) → ReadOutcome → List A → List A → Type 0
@@ -26,10 +22,5 @@ closed m c =
 
 -- how many values an answer says were kept
 abbrev pub kept_count : Answer → ℕ
-kept_count (Accepted counts) = counts.values
-kept_count (Refused refusal) = 0
-
--- a step as an answer
-abbrev pub step_answer : Step → Answer
-step_answer (Past c) = accepted 0 0 0
-step_answer (StepRefused refusal) = Refused refusal
+kept_count (Ok counts) = counts.values
+kept_count (Err refusal) = 0

@@ -1,29 +1,30 @@
 -- What the steps and the readers of rows are proved against: the walk of items' specs/Walk.antt, as the code answers it, with what
 -- the two lent slices then hold.
-use Rattle.std.specs.Prelude.{ℕ, ◌+◌, ◌-◌, cond, ◌≡◌, List, leb, ℤ, pos, length, set}
+use Rattle.std.specs.Prelude.{ℕ, ◌+◌, ◌-◌, cond, ◌≡◌, List, leb, ℤ, pos, length, set, Result, Ok, Err}
 use Rattle.bits.specs.Bits.{unpack}
 use Rattle.bits.specs.Access.{place_at}
 use Rattle.answer.specs.Numbers.{no_room, refusal_at}
-use Rattle.item.specs.Code.{natural}
-use Rattle.item.specs.declared.Item.{Item}
-use Rattle.item.specs.declared.Item.TheVariants.{Value, Bad}
+use Rattle.item.specs.Answers.{Item}
 use Rattle.values.specs.Values.{set_value, store_all}
 use Rattle.items.specs.Items.{Items}
 use Rattle.items.specs.Walk.{Walk, walked, blocked, walk}
 use Rattle.read_steps.specs.declared.Cursor.{Cursor}
-use Rattle.read_steps.specs.declared.Step.{Step}
-use Rattle.read_steps.specs.declared.Step.TheVariants.{Past, Refused}
+use Rattle.answer.specs.declared.Refusal.{Refusal}
+
+-- what reading items gives: the cursor after them; or the refusal
+abbrev pub Step : Type 0
+Step = Result Cursor Refusal
 
 abbrev pub cursor_at : ℕ → ℕ → Cursor
 cursor_at place count = record { place = place_at place; count = count }
 
 abbrev pub refused_at : ℕ → ℕ → Step
-refused_at number place = Refused (refusal_at number place)
+refused_at number place = Err (refusal_at number place)
 
 -- a walk as the code answers it, where count values stood before
 abbrev pub step_of : ℕ → Walk → Step
-step_of count (walked vs place) = Past (cursor_at place (count + length vs))
-step_of count (blocked refusal) = Refused refusal
+step_of count (walked vs place) = Ok (cursor_at place (count + length vs))
+step_of count (blocked refusal) = Err refusal
 
 -- the slices that a walk leaves: its values, kept from index count on; after a refusal anything
 abbrev pub Kept : {A : Type 0} → (List A → ℕ → ℤ → List A) → ℕ → Walk → List A → List A → Type 0
@@ -59,19 +60,10 @@ pub record Continues (message : List ℕ) (room : ℕ) (p : Items) (from : State
 
 -- an item that was read: its own refusal, then 8; else its value is kept and the cursor moves on
 abbrev pub kept_step : Item → ℕ → Cursor → Step
-kept_step (Bad refusal) room cursor = Refused refusal
-kept_step (Value v next) room cursor =
-    cond (leb room cursor.count) (refused_at no_room cursor.place.0) (Past (record { place = next; count = cursor.count + 1 }))
-
--- its value, 0 where there is none
-abbrev pub value_of : Item → ℤ
-value_of (Bad refusal) = pos 0
-value_of (Value v next) = v
-
--- its value as a count
-abbrev pub count_of : Item → ℕ
-count_of item = natural (value_of item)
+kept_step (Err refusal) room cursor = Err refusal
+kept_step (Ok (v, next)) room cursor =
+    cond (leb room cursor.count) (refused_at no_room cursor.place.0) (Ok (record { place = next; count = cursor.count + 1 }))
 
 abbrev pub kept_in : {A : Type 0} → (List A → ℕ → ℤ → List A) → Item → ℕ → ℕ → List A → List A
-kept_in put (Bad refusal) room count old = old
-kept_in put (Value v next) room count old = cond (leb room count) old (put old count v)
+kept_in put (Err refusal) room count old = old
+kept_in put (Ok (v, next)) room count old = cond (leb room count) old (put old count v)

@@ -11,8 +11,9 @@ ghost use Rattle.read_steps.specs.Reads.{Reads, state_at};
 ghost use Rattle.parts.specs.Parts.{NoChoice, marked_fields, field_if};
 ghost use Rattle.guard.specs.Readable.{asks_at, asks_from, Readable, Opened, Tested};
 
-use read_begin::{Begun, Chosen};
-use read_steps::{Cursor, Step};
+use answer::Refusal;
+use parts::Left;
+use read_steps::Cursor;
 use row::Row;
 
 // The row at an offset. Whether the rows that it refers to are known to be readable is told: those of a table are.
@@ -26,17 +27,12 @@ pub fn read_row(
     packed: &mut [u8],
     room: usize,
     cursor: Cursor,
-) -> Step
+) -> Result<Cursor, Refusal>
     requires { Readable table.now at × Tested tested table.now at × (length message.now ≤ most_octets) }
     ensures { Reads message.now room (asks_at table.now at) (state_at cursor values.old packed.old) values.new packed.new result }
 {
-    let chosen = read_begin::follow(&*table, at, &*message, values, packed, room, cursor);
-    match chosen {
-        Chosen::Row(row, next) => read_chosen(
-            &*table, row, tested, &*message, values, packed, room, next,
-        ),
-        Chosen::Refused(refusal) => Step::Refused(refusal),
-    }
+    let (row, next) = read_begin::follow(&*table, at, &*message, values, packed, room, cursor)?;
+    read_chosen(&*table, row, tested, &*message, values, packed, room, next)
 }
 
 // The row at an offset, which is no choice. The rows that it refers to are tested, if they are not known to be readable.
@@ -50,26 +46,23 @@ fn read_chosen(
     packed: &mut [u8],
     room: usize,
     cursor: Cursor,
-) -> Step
+) -> Result<Cursor, Refusal>
     requires { Readable table.now at × NoChoice table.now at × Tested tested table.now at × (length message.now ≤ most_octets) }
     ensures { Reads message.now room (asks_at table.now at) (state_at cursor values.old packed.old) values.new packed.new result }
 {
     if !tested && !guard::opens(table, at) {
-        return Step::Refused(guard::unreadable(cursor.place));
+        return Err(guard::unreadable(cursor.place));
     }
-    let begun = read_begin::begin(&*table, at, &*message, values, packed, room, cursor);
-    match begun {
-        Begun::Done(next) => Step::Past(next),
-        Begun::Run(count, row, next) => read_run(
+    let (left, next) = read_begin::begin(&*table, at, &*message, values, packed, room, cursor)?;
+    match left {
+        Left::Nothing => Ok(next),
+        Left::Run(count, row) => read_run(
             &*table, at, row, count, &*message, values, packed, room, next,
         ),
-        Begun::Numbers(count, row, next) => read_leaf::numbers(
+        Left::Numbers(count, row) => read_leaf::numbers(
             &*table, row, count, &*message, values, packed, room, next,
         ),
-        Begun::Fields(mask, next) => read_fields(
-            &*table, at, mask, &*message, values, packed, room, next,
-        ),
-        Begun::Refused(refusal) => Step::Refused(refusal),
+        Left::Fields(mask) => read_fields(&*table, at, mask, &*message, values, packed, room, next),
     }
 }
 
@@ -85,22 +78,16 @@ fn read_run(
     packed: &mut [u8],
     room: usize,
     cursor: Cursor,
-) -> Step
+) -> Result<Cursor, Refusal>
     requires { Readable table.now row × (row < at) × (length message.now ≤ most_octets) }
     ensures { Reads message.now room (times count (asks_at table.now row)) (state_at cursor values.old packed.old) values.new packed.new result }
 {
     let tested = guard::settled(table, row);
-    let mut done = 0;
     let mut here = cursor;
-    while done < count {
-        let step = read_row(&*table, row, tested, &*message, values, packed, room, here);
-        let Step::Past(next) = step else {
-            return step;
-        };
-        here = next;
-        done += 1;
+    for _ in 0..count {
+        here = read_row(&*table, row, tested, &*message, values, packed, room, here)?;
     }
-    Step::Past(here)
+    Ok(here)
 }
 
 // The fields of the record at an offset that are marked as present.
@@ -114,26 +101,20 @@ fn read_fields(
     packed: &mut [u8],
     room: usize,
     cursor: Cursor,
-) -> Step
+) -> Result<Cursor, Refusal>
     requires { Opened table.now at × (u16 table.now (at + 2) ≡ 5) × (mask < 2 ^ u16 table.now (at + 4)) × (length message.now ≤ most_octets) }
     ensures { Reads message.now room (marked_fields (asks_from table.now at) table.now at mask) (state_at cursor values.old packed.old) values.new packed.new result }
 {
     let fields = Row::count_at(table, at);
-    let mut field = 0;
     let mut here = cursor;
-    while field < fields {
+    for field in 0..fields {
         let row = Row::field_at(table, at, field);
         let present = parts::is_marked(mask, fields, field);
-        let step = read_field(
+        here = read_field(
             &*table, at, row, present, &*message, values, packed, room, here,
-        );
-        let Step::Past(next) = step else {
-            return Step::again(step);
-        };
-        here = next;
-        field += 1;
+        )?;
     }
-    Step::Past(here)
+    Ok(here)
 }
 
 // A field, where it is present: the row at an offset before `at`. One that refers to no other row is read here: most fields are
@@ -149,12 +130,12 @@ fn read_field(
     packed: &mut [u8],
     room: usize,
     cursor: Cursor,
-) -> Step
+) -> Result<Cursor, Refusal>
     requires { Readable table.now row × (row < at) × (length message.now ≤ most_octets) }
     ensures { Reads message.now room (field_if present (asks_at table.now row)) (state_at cursor values.old packed.old) values.new packed.new result }
 {
     if !present {
-        return Step::Past(cursor);
+        return Ok(cursor);
     }
     let kind = Row::kind_at(table, row);
     match kind {

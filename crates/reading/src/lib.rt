@@ -15,9 +15,9 @@ ghost use Rattle.items.specs.Slices.{values_after};
 ghost use Rattle.read_steps.specs.Ends.{KeptBy};
 ghost use Rattle.reading.specs.Outcome.{message_outcome};
 
-use answer::{Answer, Refusal};
+use answer::{Answer, Reason, Refusal};
 use bits::{BitPlace, OctetSize};
-use read_steps::{Cursor, Step};
+use read_steps::Cursor;
 
 // A message that isn't empty, under a passed table whose root is at an offset: the root, then the padding.
 pub fn read_message(
@@ -35,10 +35,7 @@ pub fn read_message(
         place: BitPlace(0),
         count: 0,
     };
-    let step = reader::read_row(table, at, true, message, values, packed, room, start);
-    let Step::Past(end) = step else {
-        return read_steps::refused(step);
-    };
+    let end = reader::read_row(table, at, true, message, values, packed, room, start)?;
     read_steps::close(message, end)
 }
 
@@ -55,10 +52,10 @@ pub fn read_passed(
     ensures { (result ≡ read_answer (message_outcome table.now message.now room)) × KeptBy set (message_outcome table.now message.now room) values.old values.new × KeptBy set_value (message_outcome table.now message.now room) packed.old packed.new }
 {
     if OctetSize::MOST < message.len() {
-        return Answer::refused(Refusal::TOO_LONG, 0);
+        return Err(Refusal::new(Reason::TooLong, 0));
     }
     if message.len() == 0 {
-        return Answer::refused(Refusal::MESSAGE_ENDS, 0);
+        return Err(Refusal::new(Reason::MessageEnds, 0));
     }
     read_message(table, at, message, values, packed, room)
 }
@@ -72,6 +69,6 @@ pub fn read_known(table: &[u8], at: usize, message: &[u8], values: &mut [i64]) -
     let room = values.len();
     let answer = read_passed(table, at, message, values, &mut none, room);
     let kept = read_steps::kept_count(answer);
-    values::clear_values(values, kept);
+    values::clear(values, kept, 0);
     answer
 }

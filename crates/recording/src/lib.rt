@@ -8,13 +8,13 @@ ghost use Rattle.drive.specs.Replay.{replay};
 ghost use Rattle.recording.specs.Frames.{PlayedUp};
 ghost use Rattle.recording.specs.Part.{replayed_whole, replayed_in, text_left};
 
-use answer::{Answer, Refusal};
+use answer::{Answer, Counts, Reason, Refusal};
 use bits::{BitPlace, OctetSize};
 use machine::Front;
 use seen::Seen;
 
 // The list after the whole frames of a part, how many octets they take, and the end of their lines.
-#[derive(Clone, Copy)]
+#[derive(Clone, Copy, Debug, PartialEq, Eq)]
 struct Frames {
     seen: [Seen; 64],
     taken: usize,
@@ -29,11 +29,7 @@ fn play_frames(octets: &[u8], start: [Seen; 64], text: &mut [u8]) -> Frames
     let mut seen = start;
     let mut taken = 0;
     let mut end = 0;
-    while taken < octets.len() {
-        let first = house::front(&octets[taken..]);
-        let Front::Whole(size) = first else {
-            return Frames { seen, taken, end };
-        };
+    while let Front::Whole(size) = house::front(&octets[taken..]) {
         let behind = taken + size;
         let played = drive::play(text, end, &octets[taken..behind], seen);
         seen = played.seen;
@@ -44,7 +40,7 @@ fn play_frames(octets: &[u8], start: [Seen; 64], text: &mut [u8]) -> Frames
 }
 
 // The list after a part of a recording, and the answer.
-#[derive(Clone, Copy)]
+#[derive(Clone, Copy, Debug, PartialEq, Eq)]
 pub struct Replayed {
     pub seen: [Seen; 64],
     pub answer: Answer,
@@ -55,23 +51,18 @@ fn replay_whole(octets: &[u8], seen: [Seen; 64], text: &mut [u8]) -> Replayed
     requires { 4 * length octets.now + 64 ≤ length text.old }
     ensures { (result ≡ replayed_whole octets.now seen) × (text.new ≡ filled 0 (length text.old) (given replay seen octets.now).text) }
 {
-    let frames = play_frames(octets, seen, text);
-    let list = frames.seen;
-    let taken = frames.taken;
-    let end = drive::put_left(text, frames.end, &octets[taken..]);
-    values::clear_octets(text, end);
-    let answer = Answer::accepted(taken, BitPlace(0), OctetSize(end));
-    Replayed { seen: list, answer }
+    let Frames { seen, taken, end } = play_frames(octets, seen, text);
+    let end = drive::put_left(text, end, &octets[taken..]);
+    values::clear(text, end, 0);
+    let answer = Ok(Counts::new(taken, BitPlace(0), OctetSize(end)));
+    Replayed { seen, answer }
 }
 
 // Whether a text has room for four octets for each of a part, and 64 more.
 fn has_room(octets: usize, text: usize) -> bool
     ensures { result ≡ leb (4 * octets + 64) text }
 {
-    if text < 64 {
-        return false;
-    }
-    octets <= (text - 64) / 4
+    64 <= text && octets <= (text - 64) / 4
 }
 
 // Replays one part of a recording, from a list that is handed over and given back: its text, and zeros after it.
@@ -81,7 +72,7 @@ pub fn replay(octets: &[u8], seen: [Seen; 64], text: &mut [u8]) -> Replayed
     if has_room(octets.len(), text.len()) {
         return replay_whole(octets, seen, text);
     }
-    values::clear_octets(text, 0);
-    let answer = Answer::refused(Refusal::NO_ROOM, 0);
+    text.fill(0);
+    let answer = Err(Refusal::new(Reason::NoRoom, 0));
     Replayed { seen, answer }
 }

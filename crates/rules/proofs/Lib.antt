@@ -3,3 +3,4 @@ pub mod ByKind
 pub mod Steps
 pub mod Loops
 pub mod Halves
+pub mod Reasons

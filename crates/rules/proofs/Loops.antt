@@ -1,11 +1,12 @@
 -- The loops over the flags and over the references of a row, a turn at a time.
 -- Assumes nothing.
-use Prim.Native.Nat.{ℕ, zero, suc, ◌+◌, ◌-◌, ◌*◌, ◌≤◌, ◌<◌, max}
+use Prim.Native.Nat.{ℕ, suc, ◌+◌, ◌-◌, ◌*◌, ◌≤◌, ◌<◌, max}
 use mathlib.Core.Bool.{Bool, true, false, cond, not, ◌&&◌, false≢true}
-use mathlib.Core.Path.{◌≡◌, refl, sym, ap, ◌∙◌}
+use mathlib.Core.Path.{◌≡◌, refl, sym, ap, ap₂, ◌∙◌}
 use mathlib.Core.Logic.{◌≢◌}
 use mathlib.Core.List.{List, [], ◌∷◌}
 use native.Mathlib.Omega.{arith}
+use native.Mathlib.Nat.{mul-le-mul_left}
 use native.Mathlib.Decide.{ℕ_discrete}
 use lib.Dec.{eqb}
 use borrow.Author.Tests.{le-leb, lt-leb, ne_eqb}
@@ -13,38 +14,48 @@ use Rattle.octets.specs.Numbers.{u16, u16s, there}
 use Rattle.rules.specs.Rules.{flags_in_bounds, branches, deepest}
 use Rattle.rules.specs.Tests.{depth_in}
 use Rattle.rules.specs.Steps.{kept, deepest_from}
-use Rattle.rules.specs.declared.Below.TheVariants.{Depth, NoRow}
 use Rattle.row.proofs.Bools.{cond_same}
+use Rattle.std.proofs.Common.{Some, None}
 
--- the first number, and the others a step on
-pub u16s_first : (t : List ℕ) (step o n : ℕ) → 0 < n → u16s t o step n ≡ u16 t o ∷ u16s t (o + step) step (n - 1)
+-- the numbers as a loop begins with them
+pub u16s_whole : (t : List ℕ) (step o n : ℕ) → u16s t o step n ≡ u16s t (o + step * 0) step (n - 0)
+u16s_whole t step o n =
+    let at : o ≡ o + step * 0 = omega arith in
+    let left : n ≡ n - 0 = omega arith in
+    ap₂ (λ (p m : ℕ). u16s t p step m) at left
+
+-- the first of those left at a turn, and the others
+u16s_first : (t : List ℕ) (step o n i : ℕ) → i < n → u16s t (o + step * i) step (n - i) ≡ u16 t (o + step * i) ∷ u16s t (o + step * (i + 1)) step (n - (i + 1))
 unfolding u16s
-u16s_first t step o zero h = absurd (omega arith)
-u16s_first t step o (suc n) h = let e : suc n - 1 ≡ n = omega arith in rw e
+u16s_first t step o n i h =
+    let left : n - i ≡ suc (n - (i + 1)) = omega arith in
+    let next : o + step * i + step ≡ o + step * (i + 1) = omega arith in
+    rw left (ap (λ (p : ℕ). u16 t (o + step * i) ∷ u16s t p step (n - (i + 1))) next)
 
--- one of n steps, and the others
-pub step_more : (step n : ℕ) → 0 < n → step * n ≡ step + step * (n - 1)
-step_more step zero h = absurd (omega arith)
-step_more step (suc n) h = let e : suc n - 1 ≡ n = omega arith in rw e (omega arith)
+-- the last octet of the one at a turn
+pub step_inside : (step n i : ℕ) → i < n → 2 ≤ step → step * i + 2 ≤ step * n
+step_inside step n i h two =
+    let most = mul-le-mul_left {m = i + 1} {n = n} step (omega arith) in
+    omega (arith, most)
 
-module _ (t : List ℕ) (o n : ℕ) (more : 0 < n) where
-  pub flag-wrong : 1 < u16 t o → flags_in_bounds (u16s t o 4 n) ≡ false
+module _ (t : List ℕ) (o n i : ℕ) (more : i < n) where
+  pub flag-wrong : 1 < u16 t (o + 4 * i) → flags_in_bounds (u16s t (o + 4 * i) 4 (n - i)) ≡ false
   unfolding flags_in_bounds
-  flag-wrong h = rw (u16s_first t 4 o n, lt-leb (u16 t o) 1 h)
+  flag-wrong h = rw (u16s_first t 4 o n i, lt-leb (u16 t (o + 4 * i)) 1 h)
 
-  pub flag-right : u16 t o ≤ 1 → flags_in_bounds (u16s t o 4 n) ≡ flags_in_bounds (u16s t (o + 4) 4 (n - 1))
+  pub flag-right : u16 t (o + 4 * i) ≤ 1 → flags_in_bounds (u16s t (o + 4 * i) 4 (n - i)) ≡ flags_in_bounds (u16s t (o + 4 * (i + 1)) 4 (n - (i + 1)))
   unfolding flags_in_bounds
-  flag-right h = rw (u16s_first t 4 o n, le-leb (u16 t o) 1 h)
+  flag-right h = rw (u16s_first t 4 o n i, le-leb (u16 t (o + 4 * i)) 1 h)
 
 -- ── references ──
 
 module _ (d : List ℕ) where
-  pub deepest_none : (depth : ℕ) → deepest_from d depth [] ≡ Depth depth
+  pub deepest_none : (depth : ℕ) → deepest_from d depth [] ≡ Some depth
   unfolding deepest_from
   deepest_none depth = let e : max depth 0 ≡ depth = omega arith in rw e
 
   -- one reference, kept
-  pub deepest_one : (depth r : ℕ) → depth_in d r ≢ 0 → deepest_from d depth (r ∷ []) ≡ Depth (max depth (depth_in d r))
+  pub deepest_one : (depth r : ℕ) → depth_in d r ≢ 0 → deepest_from d depth (r ∷ []) ≡ Some (max depth (depth_in d r))
   unfolding deepest_from
   deepest_one depth r h = let e : max (depth_in d r) 0 ≡ depth_in d r = omega arith in rw (ne_eqb (depth_in d r) 0 h, e)
 
@@ -55,7 +66,7 @@ module _ (d : List ℕ) where
       let e : max depth (max (depth_in d r) (deepest (depth_in d) rs)) ≡ max (max depth (depth_in d r)) (deepest (depth_in d) rs) = omega arith in
       rw (ne_eqb (depth_in d r) 0 h, e)
 
-  pub deepest-stray : (depth r : ℕ) (rs : List ℕ) → depth_in d r ≡ 0 → deepest_from d depth (r ∷ rs) ≡ NoRow
+  pub deepest-stray : (depth r : ℕ) (rs : List ℕ) → depth_in d r ≡ 0 → deepest_from d depth (r ∷ rs) ≡ None
   unfolding deepest_from
   deepest-stray depth r rs h = rw h
 
@@ -85,22 +96,22 @@ module _ (reserved : Bool) (r : ℕ) where
   kept_none = cond_same reserved []
 
   -- what one reference gives
-  pub one_reserved : (d : List ℕ) (depth : ℕ) → reserved && eqb r 65535 ≡ true → deepest_from d depth (kept reserved (r ∷ [])) ≡ Depth depth
+  pub one_reserved : (d : List ℕ) (depth : ℕ) → reserved && eqb r 65535 ≡ true → deepest_from d depth (kept reserved (r ∷ [])) ≡ Some depth
   one_reserved d depth q = ap (deepest_from d depth) (kept_reserved [] q ∙ kept_none) ∙ deepest_none d depth
 
   module _ (d : List ℕ) (depth : ℕ) (q : reserved && eqb r 65535 ≡ false) where
     one_kept : deepest_from d depth (kept reserved (r ∷ [])) ≡ deepest_from d depth (r ∷ [])
     one_kept = ap (deepest_from d depth) (kept_there [] q ∙ ap (λ rs. r ∷ rs) kept_none)
 
-    pub one_stray : depth_in d r ≡ 0 → deepest_from d depth (kept reserved (r ∷ [])) ≡ NoRow
+    pub one_stray : depth_in d r ≡ 0 → deepest_from d depth (kept reserved (r ∷ [])) ≡ None
     one_stray h = one_kept ∙ deepest-stray d depth r [] h
 
-    pub one_deeper : depth_in d r ≢ 0 → deepest_from d depth (kept reserved (r ∷ [])) ≡ Depth (max depth (depth_in d r))
+    pub one_deeper : depth_in d r ≢ 0 → deepest_from d depth (kept reserved (r ∷ [])) ≡ Some (max depth (depth_in d r))
     one_deeper h = one_kept ∙ deepest_one d depth r h
 
   module _ (d : List ℕ) (depth : ℕ) (rs : List ℕ) where
     -- a turn: on from the depth so far
-    pub deepest_next : (x : ℕ) → deepest_from d depth (kept reserved (r ∷ [])) ≡ Depth x
+    pub deepest_next : (x : ℕ) → deepest_from d depth (kept reserved (r ∷ [])) ≡ Some x
         → deepest_from d depth (kept reserved (r ∷ rs)) ≡ deepest_from d x (kept reserved rs)
     deepest_next x e = go (reserved && eqb r 65535) refl (ℕ_discrete (depth_in d r) 0)
       where
@@ -114,26 +125,31 @@ module _ (reserved : Bool) (r : ℕ) where
             rw (kept_there rs q) (deepest-front d depth r (kept reserved rs) n ∙ ap (λ x. deepest_from d x (kept reserved rs)) g)
 
     -- a turn that ends it
-    pub deepest-stop : deepest_from d depth (kept reserved (r ∷ [])) ≡ NoRow → deepest_from d depth (kept reserved (r ∷ rs)) ≡ NoRow
+    pub deepest-stop : deepest_from d depth (kept reserved (r ∷ [])) ≡ None → deepest_from d depth (kept reserved (r ∷ rs)) ≡ None
     deepest-stop e = go (reserved && eqb r 65535) refl (ℕ_discrete (depth_in d r) 0)
       where
-        go : (b : Bool) → reserved && eqb r 65535 ≡ b → Dec (depth_in d r ≡ 0) → deepest_from d depth (kept reserved (r ∷ rs)) ≡ NoRow
+        go : (b : Bool) → reserved && eqb r 65535 ≡ b → Dec (depth_in d r ≡ 0) → deepest_from d depth (kept reserved (r ∷ rs)) ≡ None
         go true q z = absurd (let y : ◌≡◌ {A = ℕ} 0 1 = cc (one_reserved d depth q) in omega arith)
         go false q (yes z) = rw (kept_there rs q) (deepest-stray d depth r (kept reserved rs) z)
         go false q (no n) = absurd (let y : ◌≡◌ {A = ℕ} 0 1 = cc (one_deeper d depth q n) in omega arith)
 
 -- the loop, a turn at a time
-module _ (d : List ℕ) (depth : ℕ) (reserved : Bool) (t : List ℕ) (step o n r : ℕ) (more : 0 < n) (read : r ≡ u16 t o) where
-  front : u16s t o step n ≡ r ∷ u16s t (o + step) step (n - 1)
-  front = u16s_first t step o n more ∙ ap (λ r. r ∷ u16s t (o + step) step (n - 1)) (sym read)
+module _ (d : List ℕ) (depth : ℕ) (reserved : Bool) (t : List ℕ) (step o n i r : ℕ) (more : i < n) (read : r ≡ u16 t (o + step * i)) where
+  others : List ℕ
+  others = u16s t (o + step * (i + 1)) step (n - (i + 1))
 
-  pub references_next : (x : ℕ) → deepest_from d depth (kept reserved (r ∷ [])) ≡ Depth x
-      → deepest_from d depth (kept reserved (u16s t o step n)) ≡ deepest_from d x (kept reserved (u16s t (o + step) step (n - 1)))
-  references_next x e = rw front (deepest_next reserved r d depth (u16s t (o + step) step (n - 1)) x e)
+  front : u16s t (o + step * i) step (n - i) ≡ r ∷ others
+  unfolding others
+  front = u16s_first t step o n i more ∙ ap (λ r. r ∷ others) (sym read)
 
-  pub references-stop : deepest_from d depth (kept reserved (r ∷ [])) ≡ NoRow → deepest_from d depth (kept reserved (u16s t o step n)) ≡ NoRow
-  references-stop e = rw front (deepest-stop reserved r d depth (u16s t (o + step) step (n - 1)) e)
+  pub references_next : (x : ℕ) → deepest_from d depth (kept reserved (r ∷ [])) ≡ Some x
+      → deepest_from d depth (kept reserved (u16s t (o + step * i) step (n - i))) ≡ deepest_from d x (kept reserved (u16s t (o + step * (i + 1)) step (n - (i + 1))))
+  unfolding others
+  references_next x e = rw front (deepest_next reserved r d depth others x e)
 
-pub references_end : (d : List ℕ) (depth : ℕ) (reserved : Bool) (t : List ℕ) (step o n : ℕ) → n ≡ 0 → deepest_from d depth (kept reserved (u16s t o step n)) ≡ Depth depth
+  pub references-stop : deepest_from d depth (kept reserved (r ∷ [])) ≡ None → deepest_from d depth (kept reserved (u16s t (o + step * i) step (n - i))) ≡ None
+  references-stop e = rw front (deepest-stop reserved r d depth others e)
+
+pub references_end : (d : List ℕ) (depth : ℕ) (reserved : Bool) (t : List ℕ) (step o n : ℕ) → n ≡ 0 → deepest_from d depth (kept reserved (u16s t o step n)) ≡ Some depth
 unfolding u16s
 references_end d depth reserved t step o n z = rw (z, kept_none reserved 0) (deepest_none d depth)

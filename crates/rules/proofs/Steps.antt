@@ -17,11 +17,11 @@ use Rattle.rules.specs.Rules.{flags_in_bounds, references, branches, has_branch,
 use Rattle.rules.specs.Tests.{depth_in, all_passed, row_depth, RowVerdict, sound, demand, row_verdict}
 use Rattle.row.specs.Kinds.{by_kind, length_of, least_count, most_count, count_of, reference_count, reference_step, may_reserve, flag_count, least_below}
 use Rattle.rules.specs.Steps.{Headed, kept, deepest_from, told_as, row_tested}
-use Rattle.rules.specs.declared.Below.TheVariants.{Depth, NoRow}
-use Rattle.rules.specs.declared.RowTest.TheVariants.{Sound, Broken}
 use Rattle.row.proofs.Bools.{cond-second, and-false}
 use Rattle.row.proofs.ByKind.{Kind, number, variable, fixed, counted, group, choice, octets, open_octets, none, kind_of, length-references}
 use Rattle.rules.proofs.ByKind.{known_kind_lem, row-length, row-numbers, row-references}
+use Rattle.std.proofs.Common.{Ok, Err, Some, None}
+use Rattle.answer.specs.declared.Reason.TheVariants.{RowPastEnd, UnknownKind, WrongRowLength, WrongRowNumber, WrongReference, OnlyReserved, TooDeep}
 
 -- ── a branch ──
 
@@ -122,16 +122,16 @@ module _ (t : List ℕ) (o : ℕ) (d : List ℕ) where
 
   -- ── its end and its kind ──
 
-  pub short-broken : length t < o + 4 → Broken 20 ≡ row_tested t o d
+  pub short-broken : length t < o + 4 → Err RowPastEnd ≡ row_tested t o d
   unfolding row_tested by_kind_of
   short-broken h = rw (row-steps, lt-leb (o + 4) (length t) h)
 
   module _ (l : ℕ) (length_is : l ≡ u16 t o) where
-    pub outside-broken : length t < o + l → Broken 20 ≡ row_tested t o d
+    pub outside-broken : length t < o + l → Err RowPastEnd ≡ row_tested t o d
     unfolding row_tested by_kind_of
     outside-broken h = rw (row-steps, ← length_is, lt-leb (o + l) (length t) h, and-false (leb (o + 4) (length t)))
 
-    pub kind-broken : (k : ℕ) → k ≡ u16 t (o + 2) → o + 4 ≤ length t → o + l ≤ length t → within 1 8 k ≡ false → Broken 21 ≡ row_tested t o d
+    pub kind-broken : (k : ℕ) → k ≡ u16 t (o + 2) → o + 4 ≤ length t → o + l ≤ length t → within 1 8 k ≡ false → Err UnknownKind ≡ row_tested t o d
     unfolding row_tested by_kind_of
     kind-broken k kind_is a b h = rw (row-steps, ← length_is, ← kind_is, le-leb (o + 4) (length t) a, le-leb (o + l) (length t) b, h)
 
@@ -153,7 +153,7 @@ module _ {t : List ℕ} {o l k : ℕ} (d : List ℕ) (h : Headed t o l k) (m : �
       )
       refl
 
-  pub length-broken : eqb l (length_of k m) ≡ false → Broken 22 ≡ row_tested t o d
+  pub length-broken : eqb l (length_of k m) ≡ false → Err WrongRowLength ≡ row_tested t o d
   unfolding steps_verdict
   length-broken e = rw (told-steps, e)
 
@@ -165,23 +165,23 @@ module _ {t : List ℕ} {o l k : ℕ} (d : List ℕ) (h : Headed t o l k) (m : �
     pub references_inside : 0 < reference_count k m → o + 6 + reference_step k * reference_count k m ≤ length t
     references_inside f = omega (arith, length-references k m f, row_inside)
 
-    pub numbers-broken : numbers_of t o k m ≡ false → Broken 23 ≡ row_tested t o d
+    pub numbers-broken : numbers_of t o k m ≡ false → Err WrongRowNumber ≡ row_tested t o d
     unfolding steps_verdict
     numbers-broken e = rw (told-steps, whole, e)
 
     module _ (numbers : numbers_of t o k m ≡ true) where
-      pub reference-broken : deepest_from d 0 (references_of t o k m) ≡ NoRow → Broken 24 ≡ row_tested t o d
+      pub reference-broken : deepest_from d 0 (references_of t o k m) ≡ None → Err WrongReference ≡ row_tested t o d
       unfolding steps_verdict deepest_from
       reference-broken e =
-          let z = cond-second (all_passed d (references_of t o k m)) _ NoRow (λ q. let z : ◌≡◌ {A = ℕ} 0 1 = cc in omega arith) e in
+          let z = cond-second (all_passed d (references_of t o k m)) _ None (λ q. let z : ◌≡◌ {A = ℕ} 0 1 = cc in omega arith) e in
           rw (told-steps, whole, numbers, z)
 
-      module _ (x : ℕ) (p : deepest_from d 0 (references_of t o k m) ≡ Depth x) where
+      module _ (x : ℕ) (p : deepest_from d 0 (references_of t o k m) ≡ Some x) where
         below_is : (all_passed d (references_of t o k m) ≡ true) × (x ≡ deepest (depth_in d) (references_of t o k m))
         unfolding deepest_from
         below_is = go (all_passed d (references_of t o k m)) p
           where
-            go : (b : Bool) → cond b (Depth (max 0 (deepest (depth_in d) (references_of t o k m)))) NoRow ≡ Depth x
+            go : (b : Bool) → cond b (Some (max 0 (deepest (depth_in d) (references_of t o k m)))) None ≡ Some x
                 → (b ≡ true) × (x ≡ deepest (depth_in d) (references_of t o k m))
             go true p = (refl, let e : x ≡ max 0 (deepest (depth_in d) (references_of t o k m)) = cc in e ∙ max-zero (deepest (depth_in d) (references_of t o k m)))
               where
@@ -189,14 +189,14 @@ module _ {t : List ℕ} {o l k : ℕ} (d : List ℕ) (h : Headed t o l k) (m : �
                 max-zero n = omega arith
             go false p = absurd (let z : ◌≡◌ {A = ℕ} 0 1 = cc in omega arith)
 
-        pub branch-broken : x < least_below k → Broken 25 ≡ row_tested t o d
+        pub branch-broken : x < least_below k → Err OnlyReserved ≡ row_tested t o d
         unfolding steps_verdict
         branch-broken less = rw (told-steps, whole, numbers, below_is.0, ← below_is.1, lt-leb (least_below k) x less)
 
-        pub depth-broken : least_below k ≤ x → 32 ≤ x → Broken 26 ≡ row_tested t o d
+        pub depth-broken : least_below k ≤ x → 32 ≤ x → Err TooDeep ≡ row_tested t o d
         unfolding steps_verdict
         depth-broken b more = rw (told-steps, whole, numbers, below_is.0, ← below_is.1, le-leb (least_below k) x b, lt-leb (suc x) 32 (omega arith))
 
-        pub row-sound : least_below k ≤ x → x < 32 → Sound l (x + 1) ≡ row_tested t o d
+        pub row-sound : least_below k ≤ x → x < 32 → Ok (l, x + 1) ≡ row_tested t o d
         unfolding steps_verdict
         row-sound b less = rw (told-steps, whole, numbers, below_is.0, ← below_is.1, le-leb (least_below k) x b, le-leb (suc x) 32 less, add-one) refl

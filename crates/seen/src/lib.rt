@@ -1,5 +1,5 @@
 // Records of the IDs that were seen, in a lent slice (document 02, ticket 7): when a record is live, the first record that a search
-// is for, and storing one. The two functions over the slice test no record themselves: `wanted` does.
+// is for, and storing one. The two functions over the slice test no record themselves: `Want::is_for` does.
 #![tactic(auto)]
 
 ghost use Rattle.std.specs.Prelude.{◌≡◌, set};
@@ -9,7 +9,7 @@ ghost use Rattle.seen.specs.Search.{any_record, wanted_by};
 // A record: an ID, the time at which it was stored, in milliseconds, and whether the record is in use. It lies in memory as C lays
 // it out, so that a host lends a list of its own.
 #[repr(C)]
-#[derive(Clone, Copy)]
+#[derive(Clone, Copy, Debug, Default, PartialEq, Eq)]
 pub struct Seen {
     pub id: u32,
     pub time: u32,
@@ -30,16 +30,29 @@ impl Seen {
             used: true,
         }
     }
+
+    // Whether it is live at a time: it is in use, and its own time is later, or less than its life before. The end of its life is
+    // counted in 64 bits, so that nothing wraps.
+    pub fn is_live(self, time: u32) -> bool
+        ensures { result ≡ live_at time self }
+    {
+        self.used && u64::from(time) < u64::from(self.time) + Seen::LIFE
+    }
 }
 
-// What a search is for, at a time: where `held` is true, a live record with the ID; else, where `free` is true, a record that is not
-// live; else any record, so that the search ends at once.
-#[derive(Clone, Copy)]
+// What a search is for: a live record with an ID; a record that is not live; or any record, so that the search ends at once.
+#[derive(Clone, Copy, Debug, PartialEq, Eq)]
+pub enum Sought {
+    Id(u32),
+    Free,
+    Any,
+}
+
+// What a search is for, at a time.
+#[derive(Clone, Copy, Debug, PartialEq, Eq)]
 pub struct Want {
-    pub id: u32,
     pub time: u32,
-    pub held: bool,
-    pub free: bool,
+    pub sought: Sought,
 }
 
 impl Want {
@@ -48,53 +61,33 @@ impl Want {
         ensures { result ≡ any_record time }
     {
         Want {
-            id: 0,
             time,
-            held: false,
-            free: false,
+            sought: Sought::Any,
         }
     }
-}
 
-// Whether a record is live at a time: it is in use, and its own time is later, or less than its life before. The end of its life is
-// counted in 64 bits, so that nothing wraps.
-pub fn live(one: Seen, time: u32) -> bool
-    ensures { result ≡ live_at time one }
-{
-    if one.used {
-        return (time as u64) < one.time as u64 + Seen::LIFE;
-    }
-    false
-}
-
-// Whether a record is what a search is for. The ID is compared first: of most records nothing else is looked at.
-pub fn wanted(one: Seen, want: Want) -> bool
-    ensures { result ≡ wanted_by want one }
-{
-    if want.held {
-        if one.id == want.id {
-            return live(one, want.time);
+    // Whether a record is what the search is for. The ID is compared first: of most records nothing else is looked at.
+    pub fn is_for(self, one: Seen) -> bool
+        ensures { result ≡ wanted_by self one }
+    {
+        match self.sought {
+            Sought::Id(id) => one.id == id && one.is_live(self.time),
+            Sought::Free => !one.is_live(self.time),
+            Sought::Any => true,
         }
-        return false;
     }
-    if want.free {
-        return !live(one, want.time);
-    }
-    true
 }
 
 // The index of the first record that a search is for, or the count.
 pub fn first(seen: &[Seen], want: Want) -> usize
     ensures { result ≡ first_with (wanted_by want) seen.now }
 {
-    let mut i = 0;
-    while i < seen.len() {
-        if wanted(seen[i], want) {
-            break;
+    for (i, one) in seen.iter().enumerate() {
+        if want.is_for(*one) {
+            return i;
         }
-        i += 1;
     }
-    i
+    seen.len()
 }
 
 // Stores a record at an index; past the end, nothing.

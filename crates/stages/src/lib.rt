@@ -11,7 +11,7 @@ use machine::{Before, Front};
 use pcap::Order;
 
 // Where a reader is in a file: before the file's header, or at a record, by the file's order and what came before.
-#[derive(Clone, Copy)]
+#[derive(Clone, Copy, Debug, PartialEq, Eq)]
 pub enum Stage {
     Opening,
     Records(Order, Before),
@@ -49,10 +49,7 @@ pub fn next(stage: Stage, unit: &[u8]) -> Stage
             };
             Stage::Records(order, before)
         }
-        Stage::Records(order, before) => {
-            let after = before.after(unit.len());
-            Stage::Records(order, after)
-        }
+        Stage::Records(order, before) => Stage::Records(order, before.after(unit.len())),
     }
 }
 
@@ -86,12 +83,7 @@ pub fn put_ended(out: &mut [u8], at: usize, stage: Stage, left: &[u8]) -> usize
 {
     match stage {
         Stage::Opening => put_stop(out, at, FILE, Before::none()),
-        Stage::Records(_, before) => {
-            if 0 < left.len() {
-                put_stop(out, at, END, before)
-            } else {
-                lines::put_last(out, at, before.units)
-            }
-        }
+        Stage::Records(_, before) if left.is_empty() => lines::put_last(out, at, before.units),
+        Stage::Records(_, before) => put_stop(out, at, END, before),
     }
 }

@@ -25,22 +25,17 @@ fn put_last_lines(input: &[u8], output: &mut [u8], last: Outcome) -> usize
     ensures appended { Appended output.old (lines_of last.led) (last_text programs last.progress input.now last.led) output.new result }
     ensures upper_bound { result ≤ 65536 }
 {
-    let led = last.led;
-    let progress = last.progress;
+    let Outcome { led, progress } = last;
     match led {
-        Led::Next(s) => programs::put_ended(output, s.lines, progress, &input[..0]),
-        Led::End(s) => {
-            let from = s.from;
-            let end = s.end;
-            programs::put_ended(output, s.lines, progress, &input[from..end])
-        }
+        Led::Next(s) => programs::put_ended(output, s.lines, progress, &[]),
+        Led::End(s) => programs::put_ended(output, s.lines, progress, &input[s.from..s.end]),
         Led::Stop(s) => programs::put_stopped(output, s.lines, progress),
         Led::Lost => 0,
     }
 }
 
-// Turns until the input ends. A proved loop has to end, and nothing says that the input does: so the turns are counted down
-// from a number that no run uses up, and one that did would answer `Next`.
+// Turns until the input ends. A proved loop has to end, and nothing says that the input does: so the turns are counted up
+// to a number that no run reaches, and one that did would answer `Next`.
 fn run(
     source: Stdin,
     input: &mut [u8],
@@ -57,19 +52,18 @@ fn run(
         lines: 0,
     };
     let mut progress = start;
-    let mut turns = u64::MAX;
-    while 0 < turns {
-        let result = turns::turn(source, input, output, values, s, progress);
-        let led = result.led;
-        let Led::Next(next) = led else {
-            return result;
+    for _ in 0..u64::MAX {
+        let turned = turns::turn(source, input, output, values, s, progress);
+        let Led::Next(next) = turned.led else {
+            return turned;
         };
         s = next;
-        progress = result.progress;
-        turns -= 1;
+        progress = turned.progress;
     }
-    let led = Led::Next(s);
-    Outcome { led, progress }
+    Outcome {
+        led: Led::Next(s),
+        progress,
+    }
 }
 
 // Answers the input of a program: turns until it ends, and then the last lines. The result is the end of the lines that are left to
@@ -100,8 +94,8 @@ pub fn answer_frames(
     ensures answered { Answered bench nothing output.new result }
     ensures upper_bound { result ≤ 65536 }
 {
-    let before = Before::none();
-    answer(source, input, output, values, Progress::Bench(before))
+    let start = Progress::Bench(Before::none());
+    answer(source, input, output, values, start)
 }
 
 // The capture program: a capture file.
@@ -115,6 +109,6 @@ pub fn answer_capture(
     ensures answered { Answered capture Opening output.new result }
     ensures upper_bound { result ≤ 65536 }
 {
-    let stage = Stage::Opening;
-    answer(source, input, output, values, Progress::Capture(stage))
+    let start = Progress::Capture(Stage::Opening);
+    answer(source, input, output, values, start)
 }

@@ -9,20 +9,25 @@ ghost use Rattle.items.specs.Items.{one, times};
 ghost use Rattle.encoding.specs.Rows.{octets_within};
 ghost use Rattle.read_steps.specs.Reads.{Reads, state_at};
 
-use bits::{BitPlace, Fetched};
-use item::Item;
-use read_steps::{Cursor, Step};
+use answer::Refusal;
+use bits::BitPlace;
+use read_steps::Cursor;
 
 // A length. One that an octet tells, as most are, is taken at once; whatever else stands there goes the general way.
-fn length(message: &[u8], place: BitPlace, least: u32, most: u32) -> Item
+fn length(
+    message: &[u8],
+    place: BitPlace,
+    least: u32,
+    most: u32,
+) -> Result<(i64, BitPlace), Refusal>
     requires { (length message.now ≤ most_octets) × (place.0 % 8 ≡ 0) × (127 ≤ most) }
     ensures { result ≡ item_at (Code.length_within least most) message.now place.0 }
 {
     let f = whole::fetch(message, place, 1);
-    if let Fetched::Bits(octet, next) = f {
+    if let Some((octet, next)) = f {
         if least <= octet {
             if octet < 128 {
-                return Item::Value(octet as i64, next);
+                return Ok((octet as i64, next));
             }
         }
     }
@@ -37,11 +42,11 @@ fn run(
     packed: &mut [u8],
     room: usize,
     cursor: Cursor,
-) -> Step
+) -> Result<Cursor, Refusal>
     requires { (length message.now ≤ most_octets) × (cursor.place.0 % 8 ≡ 0) }
     ensures { Reads message.now room (times count (one (Code.number (pos 0) 255))) (state_at cursor values.old packed.old) values.new packed.new result }
 {
-    let first = BitPlace::octets_before(cursor.place);
+    let first = cursor.place.octets_before();
     let at = first.0;
     let free = values::fitting(room, cursor.count, count);
     let ready = values::fitting(message.len(), at, free);
@@ -50,7 +55,7 @@ fn run(
     }
     read_runs::read_numbers(&*message, at, 0, count, values, cursor.count);
     read_runs::read_packed(&*message, at, 0, count, packed, cursor.count);
-    Step::Past(Cursor {
+    Ok(Cursor {
         place: BitPlace(8 * (at + count)),
         count: cursor.count + count,
     })
@@ -64,15 +69,12 @@ pub fn octets(
     packed: &mut [u8],
     room: usize,
     cursor: Cursor,
-) -> Step
+) -> Result<Cursor, Refusal>
     requires { (length message.now ≤ most_octets) × (cursor.place.0 % 8 ≡ 0) }
     ensures { Reads message.now room (octets_within least 16383) (state_at cursor values.old packed.old) values.new packed.new result }
 {
-    let item = length(&*message, cursor.place, least, 16383);
-    let step = read_steps::kept(item, values, packed, room, cursor);
-    let Step::Past(next) = step else {
-        return step;
-    };
-    let count = read_steps::count_of(item);
+    let (length, first) = length(&*message, cursor.place, least, 16383)?;
+    let next = read_steps::keep(length, first, values, packed, room, cursor)?;
+    let count = item::count_of(length);
     run(count, &*message, values, packed, room, next)
 }

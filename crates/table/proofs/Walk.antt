@@ -11,12 +11,15 @@ use Rattle.octets.specs.Numbers.{u16}
 use Rattle.row.specs.Rows.{row_at}
 use Rattle.rules.specs.Rules.{Starts, Part, its_end, its_length, its_references, part_number, Keeps, Obeys, depth}
 use Rattle.rules.specs.Tests.{RowVerdict, sound, faulty, row_verdict, row_depth}
-use Rattle.rules.specs.Steps.{spread, told_as, row_tested}
-use Rattle.rules.specs.declared.RowTest.TheVariants.{Sound, Broken}
+use Rattle.answer.specs.Numbers.{reason_number}
+use Rattle.answer.specs.declared.Reason.{Reason}
+use Rattle.rules.specs.Steps.{spread, told_as, row_tested, part_reason}
 use Rattle.table.specs.Faults.{FirstBroken, Fault, in_row}
 use Rattle.table.specs.Summary.{rows_from, row_count, depths_from, depths_of}
+use Rattle.rules.proofs.Reasons.{reason-part}
 use Rattle.rules.proofs.Halves.{length-even, spread-set, spread-zeros}
 use Rattle.table.proofs.Decides.{Ready, start, ready_on, row-depth, row-sound, row-faulty, row-four, all_obeys}
+use Rattle.std.proofs.Common.{Ok, Err}
 
 -- ── one row ──
 
@@ -26,22 +29,25 @@ record Passes (t : List ℕ) (o : ℕ) (d : List ℕ) (l x : ℕ) : Type 0 where
   length_is : l ≡ u16 t o
   depth_is : x ≡ row_depth t o d
 
-sound-passes : (t : List ℕ) (o : ℕ) (d : List ℕ) (l x : ℕ) → row_tested t o d ≡ Sound l x → Passes t o d l x
+sound-passes : (t : List ℕ) (o : ℕ) (d : List ℕ) (l x : ℕ) → row_tested t o d ≡ Ok (l, x) → Passes t o d l x
 unfolding row_tested
 sound-passes t o d l x e = go (row_verdict t o d) refl e
   where
-    go : (v : RowVerdict) → row_verdict t o d ≡ v → told_as v (u16 t o) (row_depth t o d) ≡ Sound l x → Passes t o d l x
-    go sound h e = record { test = h; length_is = cc; depth_is = cc }
+    go : (v : RowVerdict) → row_verdict t o d ≡ v → told_as v (u16 t o) (row_depth t o d) ≡ Ok (l, x) → Passes t o d l x
+    go sound h e =
+        let both : ◌≡◌ {A = ℕ × ℕ} (u16 t o, row_depth t o d) (l, x) = cc in
+        record { test = h; length_is = sym (ap (λ (p : ℕ × ℕ). p.0) both); depth_is = sym (ap (λ (p : ℕ × ℕ). p.1) both) }
     go (faulty part) h e = absurd (let z : ◌≡◌ {A = ℕ} 0 1 = cc in omega arith)
 
-broken-fails : (t : List ℕ) (o : ℕ) (d : List ℕ) (n : ℕ) → row_tested t o d ≡ Broken n → (part : Part) × (row_verdict t o d ≡ faulty part) × (part_number part ≡ n)
+broken-fails : (t : List ℕ) (o : ℕ) (d : List ℕ) (r : Reason) → row_tested t o d ≡ Err r
+    → (part : Part) × (row_verdict t o d ≡ faulty part) × (part_number part ≡ reason_number r)
 unfolding row_tested
-broken-fails t o d n e = go (row_verdict t o d) refl e
+broken-fails t o d r e = go (row_verdict t o d) refl e
   where
-    go : (v : RowVerdict) → row_verdict t o d ≡ v → told_as v (u16 t o) (row_depth t o d) ≡ Broken n
-        → (part : Part) × (row_verdict t o d ≡ faulty part) × (part_number part ≡ n)
+    go : (v : RowVerdict) → row_verdict t o d ≡ v → told_as v (u16 t o) (row_depth t o d) ≡ Err r
+        → (part : Part) × (row_verdict t o d ≡ faulty part) × (part_number part ≡ reason_number r)
     go sound h e = absurd (let z : ◌≡◌ {A = ℕ} 0 1 = cc in omega arith)
-    go (faulty part) h e = (part, h, cc)
+    go (faulty part) h e = let same : part_reason part ≡ r = cc in (part, h, reason-part part ∙ ap reason_number same)
 
 -- ── the rows so far, and those that are left ──
 
@@ -113,7 +119,7 @@ module _ {t : List ℕ} {o : ℕ} {h : List ℕ} {rows last : ℕ} (w : Walked t
       }
 
   -- over one that the test passes
-  pub row-passed : (l x : ℕ) → row_tested t o (spread h) ≡ Sound l x → WalkedOn t o h rows l x
+  pub row-passed : (l x : ℕ) → row_tested t o (spread h) ≡ Ok (l, x) → WalkedOn t o h rows l x
   row-passed l x e =
       let p = sound-passes t o (spread h) l x e in
       let k = row-sound w.ready.depths p.test in
@@ -124,9 +130,9 @@ module _ {t : List ℕ} {o : ℕ} {h : List ℕ} {rows last : ℕ} (w : Walked t
       }
 
   -- one that it refuses
-  pub row-refused : 4 ≤ length t → (n : ℕ) → row_tested t o (spread h) ≡ Broken n → Fault t n o
-  row-refused least n e =
-      let f = broken-fails t o (spread h) n e in
+  pub row-refused : 4 ≤ length t → (r : Reason) → row_tested t o (spread h) ≡ Err r → Fault t (reason_number r) o
+  row-refused least r e =
+      let f = broken-fails t o (spread h) r e in
       let x = row-faulty w.ready.depths f.0 f.1 in
       let first : FirstBroken t o f.0 = record { starts = (w.ready.reached, inside); rows_before = w.ready.rows; parts_before = x.0; breaks = x.1 } in
       rw (← f.2) (in_row least most first)

@@ -1,10 +1,8 @@
 -- The verdict on a table: one pass over its rows that decides the rules. A reader need not believe it: that it passes a table exactly
 -- when the table obeys them, and else tells its fault, is Checks (Checks.antt).
-use Rattle.std.specs.Prelude.{ℕ, zero, suc, ◌+◌, cond, ◌&&◌, List, leb, eqb, length, set, replicate}
+use Rattle.std.specs.Prelude.{ℕ, zero, suc, ◌+◌, cond, ◌&&◌, List, leb, eqb, length, set, replicate, Err}
 use Rattle.octets.specs.Numbers.{u16}
-use Rattle.answer.specs.declared.Answer.{Answer}
-use Rattle.answer.specs.declared.Answer.TheVariants.{Refused}
-use Rattle.answer.specs.Numbers.{refusal_at, accepted, table_size}
+use Rattle.answer.specs.Numbers.{Answer, refusal_at, accepted, table_size}
 use Rattle.answer.specs.declared.Refusal.{Refusal}
 use Rattle.rules.specs.Rules.{part_number}
 use Rattle.rules.specs.Tests.{RowVerdict, sound, faulty, row_verdict, row_depth}
@@ -31,4 +29,4 @@ verdict t = cond (leb 4 (length t) && leb (length t) 4096) (scan (suc (length t)
 -- the check's answer; an accepted check counts nothing
 abbrev pub checked : Verdict → Answer
 checked passed = accepted 0 0 0
-checked (broken refusal) = Refused refusal
+checked (broken refusal) = Err refusal

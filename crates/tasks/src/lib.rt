@@ -11,7 +11,7 @@ ghost use Rattle.tasks.specs.Tasks.{front_of, stopped_lines, ended_lines};
 use machine::Front;
 use programs::Progress;
 
-#[derive(Clone, Copy)]
+#[derive(Clone, Copy, Debug, PartialEq, Eq)]
 pub enum Task {
     Read(Progress),
     Replay,

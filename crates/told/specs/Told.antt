@@ -1,8 +1,7 @@
 -- An answer as the host is told it: six numbers of 64 bits. The refusal's number, 0 where the call is accepted; its place; the
 -- counts of values, bits and octets; and one that stays 0, kept for the count of missing bits.
 use Rattle.std.specs.Prelude.{◌≡◌, List, [], ◌∷◌, ℕ}
-use Rattle.answer.specs.declared.Answer.{Answer}
-use Rattle.answer.specs.Numbers.{Outcome, accepted, refused, outcome_of}
+use Rattle.answer.specs.Numbers.{Answer, Outcome, accepted, refused, outcome_of}
 
 abbrev pub listed : Outcome → List ℕ
 listed o = o.number ∷ o.place ∷ o.values ∷ o.bits ∷ o.octets ∷ 0 ∷ []

@@ -11,7 +11,7 @@ pub fn told(answer: Answer) -> [u64; 6]
     ensures { result ≡ told answer }
 {
     match answer {
-        Answer::Accepted(counts) => [
+        Ok(counts) => [
             0,
             0,
             counts.values as u64,
@@ -19,7 +19,7 @@ pub fn told(answer: Answer) -> [u64; 6]
             counts.octets.0 as u64,
             0,
         ],
-        Answer::Refused(refusal) => [refusal.number as u64, refusal.place as u64, 0, 0, 0, 0],
+        Err(refusal) => [u64::from(refusal.number), refusal.place as u64, 0, 0, 0, 0],
     }
 }
 

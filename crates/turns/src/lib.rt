@@ -12,7 +12,7 @@ use programs::Progress;
 use std::io::Stdin;
 
 // What a turn led to, and how far the program then is.
-#[derive(Clone, Copy)]
+#[derive(Clone, Copy, Debug, PartialEq, Eq)]
 pub struct Outcome {
     pub led: Led,
     pub progress: Progress,
@@ -34,15 +34,11 @@ fn take(
     requires input_len { (length input.now ≡ 65536) × (length output.old ≡ 65536) × (length values.old ≡ 1024) }
     ensures { HeldAfter result.led × Took programs progress (take size (at_hand s input.now)) s output.old output.new result.led result.progress }
 {
-    let from = s.from;
-    let end = from + size;
-    let unit = &input[from..end];
+    let unit = &input[s.from..s.from + size];
     let lines = programs::put_unit(output, s.lines, progress, unit, values);
-    let next = programs::next(progress, unit);
-    let after = buffers::after(s, size, lines);
     Outcome {
-        led: Led::Next(after),
-        progress: next,
+        led: Led::Next(buffers::after(s, size, lines)),
+        progress: programs::next(progress, unit),
     }
 }
 
@@ -62,18 +58,15 @@ pub fn turn(
         let led = buffers::flush(output, s);
         return Outcome { led, progress };
     }
-    let from = s.from;
-    let end = s.end;
-    let front = programs::front(progress, &input[from..end]);
-    match front {
+    match programs::front(progress, &input[s.from..s.end]) {
         Front::Whole(size) => take(input, output, values, s, progress, size),
         Front::Part => {
             let led = buffers::more(source, input, output, s);
             Outcome { led, progress }
         }
-        Front::Wrong => {
-            let led = Led::Stop(s);
-            Outcome { led, progress }
-        }
+        Front::Wrong => Outcome {
+            led: Led::Stop(s),
+            progress,
+        },
     }
 }

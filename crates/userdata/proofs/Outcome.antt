@@ -8,7 +8,6 @@ use native.Mathlib.Nat.{zero-add}
 use lib.IntN.{ℤ}
 use lib.ListN.{length}
 use Rattle.bits.specs.Bits.{unpack}
-use Rattle.answer.specs.declared.Answer.TheVariants.{Accepted, Refused}
 use Rattle.answer.specs.declared.Counts.{Counts}
 use Rattle.answer.specs.declared.Refusal.{Refusal}
 use Rattle.items.specs.Items.{◌then◌}
@@ -16,44 +15,42 @@ use Rattle.encoding.specs.Rows.{items}
 use Rattle.items.specs.Reading.{ReadOutcome, accept, refuse, read_answer}
 use Rattle.items.specs.Walk.{Walk, walked, blocked, walk}
 use Rattle.read_steps.specs.declared.Cursor.{Cursor}
-use Rattle.read_steps.specs.declared.Step.{Step}
-use Rattle.read_steps.specs.declared.Step.TheVariants.{Past, Refused as StepRefused}
-use Rattle.read_steps.specs.Reads.{cursor_at, step_of, state_at, Reads}
+use Rattle.read_steps.specs.Reads.{Step, cursor_at, step_of, state_at, Reads}
 use Rattle.read_steps.proofs.Flow.{continues_part, refused_part}
 use Rattle.builtin.specs.Tables.{lm}
 use Rattle.lm.specs.ByName.{read_lm_outcome}
 use Rattle.userdata.specs.declared.Span.{Span}
-use Rattle.userdata.specs.declared.Found.TheVariants.{At, Refused as FoundRefused}
 use Rattle.userdata.specs.UserData.{enough, headers, data_length, found_in, user_data_found}
 use Rattle.userdata.specs.Headers.{walk_count, header_count}
 use Rattle.userdata.proofs.Taken.{read_is}
+use Rattle.std.proofs.Common.{Ok, Err}
 
 -- ── the count of the headers' values ──
 
-step-refused : (w : Walk) (refusal : Refusal) → StepRefused refusal ≡ step_of 0 w → 0 ≡ walk_count w
+step-refused : (w : Walk) (refusal : Refusal) → Err refusal ≡ step_of 0 w → 0 ≡ walk_count w
 step-refused (walked vs at) refusal e = let z : ◌≡◌ {A = ℕ} 0 1 = cc in absurd (omega arith)
 step-refused (blocked by) refusal e = refl
 
-step_past : (w : Walk) (c : Cursor) → Past c ≡ step_of 0 w → c.count ≡ walk_count w
+step_past : (w : Walk) (c : Cursor) → Ok c ≡ step_of 0 w → c.count ≡ walk_count w
 step_past (walked vs at) c e = let q : c ≡ cursor_at at (0 + length vs) = cc in ap (λ (x : Cursor). x.count) q ∙ zero-add (length vs)
 step_past (blocked refusal) c e = let z : ◌≡◌ {A = ℕ} 0 1 = cc in absurd (omega arith)
 
 module _ (s : List ℕ) (old new : List ℤ) (old_packed new_packed : List ℕ) (first : Step)
     (reads : Reads s enough (items lm 204) (state_at (cursor_at 0 0) old old_packed) new new_packed first) where
-  pub network-refused : (refusal : Refusal) → first ≡ StepRefused refusal → 0 ≡ header_count s
+  pub network-refused : (refusal : Refusal) → first ≡ Err refusal → 0 ≡ header_count s
   unfolding header_count headers
   network-refused refusal e = step-refused (walk (items lm 204 then items lm 278) (unpack s) enough 0) refusal (sym e ∙ (refused_part (items lm 204) (items lm 278) reads e).agrees.answer)
 
-  module _ (c : Cursor) (past : first ≡ Past c) (end : List ℤ) (end_packed : List ℕ) (second : Step)
+  module _ (c : Cursor) (past : first ≡ Ok c) (end : List ℤ) (end_packed : List ℕ) (second : Step)
       (further : Reads s enough (items lm 278) (state_at c new new_packed) end end_packed second) where
     both : Reads s enough (items lm 204 then items lm 278) (state_at (cursor_at 0 0) old old_packed) end end_packed second
     both = (continues_part (items lm 204) (items lm 278) reads past).complete end end_packed second further
 
-    pub transport-refused : (refusal : Refusal) → second ≡ StepRefused refusal → 0 ≡ header_count s
+    pub transport-refused : (refusal : Refusal) → second ≡ Err refusal → 0 ≡ header_count s
     unfolding header_count headers
     transport-refused refusal e = step-refused (walk (items lm 204 then items lm 278) (unpack s) enough 0) refusal (sym e ∙ both.agrees.answer)
 
-    pub transport_past : (d : Cursor) → second ≡ Past d → d.count ≡ header_count s
+    pub transport_past : (d : Cursor) → second ≡ Ok d → d.count ≡ header_count s
     unfolding header_count headers
     transport_past d e = step_past (walk (items lm 204 then items lm 278) (unpack s) enough 0) d (sym e ∙ both.agrees.answer)
 
@@ -68,14 +65,14 @@ pub record Placed (s : List ℕ) (counts : Counts) : Type 0 where
   pub most : length s ≤ 65535
   pub count : counts.values ≡ header_count s + suc size
   pub within : size ≤ length s
-  pub found : user_data_found s ≡ At (span_of (length s - size) size)
+  pub found : user_data_found s ≡ Ok (span_of (length s - size) size)
 
 module _ (s : List ℕ) where
-  pub accepted-placed : (counts : Counts) → read_answer (read_lm_outcome s enough) ≡ Accepted counts → Placed s counts
+  pub accepted-placed : (counts : Counts) → read_answer (read_lm_outcome s enough) ≡ Ok counts → Placed s counts
   unfolding user_data_found
   accepted-placed counts e = go (read_lm_outcome s enough) refl e
     where
-      go : (x : ReadOutcome) → read_lm_outcome s enough ≡ x → read_answer x ≡ Accepted counts → Placed s counts
+      go : (x : ReadOutcome) → read_lm_outcome s enough ≡ x → read_answer x ≡ Ok counts → Placed s counts
       go (refuse refusal) q e = let z : ◌≡◌ {A = ℕ} 0 1 = cc in absurd (omega arith)
       go (accept vs n) q e =
           let r = read_is s vs n q in
@@ -88,20 +85,20 @@ module _ (s : List ℕ) where
             found = ap (found_in (length s)) q;
           }
 
-  pub refused-placed : (refusal : Refusal) → read_answer (read_lm_outcome s enough) ≡ Refused refusal → FoundRefused refusal ≡ user_data_found s
+  pub refused-placed : (refusal : Refusal) → read_answer (read_lm_outcome s enough) ≡ Err refusal → Err refusal ≡ user_data_found s
   unfolding user_data_found
   refused-placed refusal e = go (read_lm_outcome s enough) e
     where
-      go : (x : ReadOutcome) → read_answer x ≡ Refused refusal → FoundRefused refusal ≡ found_in (length s) x
+      go : (x : ReadOutcome) → read_answer x ≡ Err refusal → Err refusal ≡ found_in (length s) x
       go (accept vs n) e = let z : ◌≡◌ {A = ℕ} 0 1 = cc in absurd (omega arith)
-      go (refuse by) e = let k : by ≡ refusal = cc in ap FoundRefused (sym k)
+      go (refuse by) e = let k : by ≡ refusal = cc in ap Err (sym k)
 
   -- the part ends the message
-  pub found-ends : (span : Span) → user_data_found s ≡ At span → span.start.0 + span.length.0 ≡ length s
+  pub found-ends : (span : Span) → user_data_found s ≡ Ok span → span.start.0 + span.length.0 ≡ length s
   unfolding user_data_found
   found-ends span e = go (read_lm_outcome s enough) refl e
     where
-      go : (x : ReadOutcome) → read_lm_outcome s enough ≡ x → found_in (length s) x ≡ At span → span.start.0 + span.length.0 ≡ length s
+      go : (x : ReadOutcome) → read_lm_outcome s enough ≡ x → found_in (length s) x ≡ Ok span → span.start.0 + span.length.0 ≡ length s
       go (refuse refusal) q e = let z : ◌≡◌ {A = ℕ} 0 1 = cc in absurd (omega arith)
       go (accept vs n) q e =
           let k : span_of (length s - data_length vs) (data_length vs) ≡ span = cc in

@@ -16,11 +16,11 @@ use Rattle.lm.specs.UserData.{bits_before, user_data_start}
 use Rattle.lm.proofs.Demand2.{demand2-lm}
 use Rattle.lm.proofs.UserData.{user-data-place}
 use Rattle.userdata.specs.declared.Span.{Span}
-use Rattle.userdata.specs.declared.Found.TheVariants.{At}
 use Rattle.userdata.specs.UserData.{enough, data_length, found_in, user_data_found, part_of}
 use Rattle.userdata.specs.Placed.{IsUserData, UserDataPlaced}
 use Rattle.userdata.proofs.Taken.{length_is}
 use Rattle.userdata.proofs.Room.{lm-count, lm-room, lm_never}
+use Rattle.std.proofs.Common.{Ok}
 
 abbrev span_of : ℕ → ℕ → Span
 span_of start length = record { start = record { 0 = start }; length = record { 0 = length } }
@@ -48,22 +48,22 @@ module _ (s : List ℕ) (m : Message s) (l : Lm) (laid : LaidOut s l) where
         m.most,
       )
 
-  found-is : user_data_found s ≡ At (span_of (user_data_start l) (length l.user_data))
+  found-is : user_data_found s ≡ Ok (span_of (user_data_start l) (length l.user_data))
   unfolding user_data_found
   found-is =
       ap (found_in (length s)) ((demand2-lm.reads s m enough (values_of l) (length (layout_bits l))).1 (l, laid, refl, fits, refl))
-      ∙ ap₂ (λ a b. At (span_of a b)) start_is (length_is l laid.well_formed)
+      ∙ ap₂ (λ a b. Ok (span_of a b)) start_is (length_is l laid.well_formed)
 
   part_is : part_of s (user_data_found s) ≡ l.user_data
   part_is =
       ap (part_of s) found-is ∙ ap (take (length l.user_data)) (user-data-place.rest s l laid) ∙ take-length l.user_data
 
 module _ (s : List ℕ) (m : Message s) (span : Span) where
-  found-laid : user_data_found s ≡ At span → (l : Lm) × LaidOut s l × IsUserData l span
+  found-laid : user_data_found s ≡ Ok span → (l : Lm) × LaidOut s l × IsUserData l span
   unfolding user_data_found
   found-laid e = go (read_lm_outcome s enough) refl e
     where
-      go : (x : ReadOutcome) → read_lm_outcome s enough ≡ x → found_in (length s) x ≡ At span → (l : Lm) × LaidOut s l × IsUserData l span
+      go : (x : ReadOutcome) → read_lm_outcome s enough ≡ x → found_in (length s) x ≡ Ok span → (l : Lm) × LaidOut s l × IsUserData l span
       go (refuse refusal) q e = let z : ◌≡◌ {A = ℕ} 0 1 = cc in absurd (omega arith)
       go (accept vs n) q e =
           let x = (demand2-lm.reads s m enough vs n).0 q in
@@ -78,8 +78,8 @@ module _ (s : List ℕ) (m : Message s) (span : Span) where
             },
           )
 
-  laid-found : ((l : Lm) × LaidOut s l × IsUserData l span) → user_data_found s ≡ At span
-  laid-found x = found-is s m x.0 x.1 ∙ ap₂ (λ a b. At (span_of a b)) (sym x.2.start) (sym x.2.length)
+  laid-found : ((l : Lm) × LaidOut s l × IsUserData l span) → user_data_found s ≡ Ok span
+  laid-found x = found-is s m x.0 x.1 ∙ ap₂ (λ a b. Ok (span_of a b)) (sym x.2.start) (sym x.2.length)
 
 pub user-data-placed : UserDataPlaced
 user-data-placed = record {

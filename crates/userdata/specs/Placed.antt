@@ -1,6 +1,6 @@
 -- What the calls for the user data give of an LM, by the layout of ISO 16460:2021, clause 5; and that room plays no part in it.
 -- The proof is proofs/Placed.antt.
-use Rattle.std.specs.Prelude.{ℕ, ◌≤◌, ◌≡◌, ◌↔◌, ◌≢◌, List, length}
+use Rattle.std.specs.Prelude.{ℕ, ◌≤◌, ◌≡◌, ◌↔◌, ◌≢◌, List, length, Ok}
 use Rattle.answer.specs.declared.Refusal.{Refusal}
 use Rattle.answer.specs.Numbers.{no_room}
 use Rattle.items.specs.Reading.{refuse}
@@ -10,7 +10,6 @@ use Rattle.lm.specs.Clause5.{Lm}
 use Rattle.lm.specs.Demand2.{LaidOut}
 use Rattle.lm.specs.UserData.{user_data_start}
 use Rattle.userdata.specs.declared.Span.{Span}
-use Rattle.userdata.specs.declared.Found.TheVariants.{At}
 use Rattle.userdata.specs.UserData.{enough, user_data_found, part_of}
 
 -- a part that is the user data of an LM
@@ -20,7 +19,7 @@ pub record IsUserData (l : Lm) (span : Span) : Type 0 where
 
 pub record UserDataPlaced : Type 0 where
   -- a part is given exactly when the message is the layout of an LM of version 3, and it is that LM's user data
-  pub placed : (s : List ℕ) → Message s → (span : Span) → (user_data_found s ≡ At span) ↔ ((l : Lm) × LaidOut s l × IsUserData l span)
+  pub placed : (s : List ℕ) → Message s → (span : Span) → (user_data_found s ≡ Ok span) ↔ ((l : Lm) × LaidOut s l × IsUserData l span)
   -- and the octets of that part are it
   pub part : (s : List ℕ) → Message s → (l : Lm) → LaidOut s l → part_of s (user_data_found s) ≡ l.user_data
   -- any room from `enough` on gives the same outcome

@@ -5,24 +5,17 @@
 ghost use Rattle.std.specs.Prelude.{◌≡◌, ◌+◌, ◌≤◌, length};
 ghost use Rattle.bits.specs.Access.{most_octets};
 ghost use Rattle.userdata.specs.UserData.{user_data_found, part_of, start_of};
-ghost use Rattle.userdata.specs.Headers.{header_count, answer_found};
+ghost use Rattle.userdata.specs.Headers.{header_count};
 
-use answer::{Answer, Refusal};
+use answer::Refusal;
 use bits::{BitPlace, OctetSize};
-use read_steps::{Cursor, Step};
+use read_steps::Cursor;
 
 // A part of a message, in octets.
-#[derive(Clone, Copy)]
+#[derive(Clone, Copy, Debug, PartialEq, Eq)]
 pub struct Span {
     pub start: OctetSize,
     pub length: OctetSize,
-}
-
-// Where the user data stands, or the refusal.
-#[derive(Clone, Copy)]
-pub enum Found {
-    At(Span),
-    Refused(Refusal),
 }
 
 // Room for a value for each bit of the longest message: no item of an LM takes no bits, so it is never used up.
@@ -54,7 +47,7 @@ fn header_values(message: &[u8]) -> usize
         ROOM,
         start,
     );
-    let Step::Past(between) = network else {
+    let Ok(between) = network else {
         return 0;
     };
     let transport = reader::read_row(
@@ -67,38 +60,22 @@ fn header_values(message: &[u8]) -> usize
         ROOM,
         between,
     );
-    let Step::Past(end) = transport else {
+    let Ok(end) = transport else {
         return 0;
     };
     end.count
 }
 
-// An answer that was refused, as where the user data stands; no octets for one that was accepted.
-fn refused(answer: Answer) -> Found
-    ensures { result ≡ answer_found answer }
-{
-    match answer {
-        Answer::Accepted(_) => Found::At(Span {
-            start: OctetSize(0),
-            length: OctetSize(0),
-        }),
-        Answer::Refused(refusal) => Found::Refused(refusal),
-    }
-}
-
 // Where the user data of an LM stands: it is the last of the message, and of its values all after the headers' and its length.
-pub fn user_data_place(message: &[u8]) -> Found
+pub fn user_data_place(message: &[u8]) -> Result<Span, Refusal>
     ensures { result ≡ user_data_found message.now }
 {
     let mut values = [0i64; 0];
     let mut packed = [0u8; 0];
-    let answer = messages::either::lm_message(message, &mut values, &mut packed, ROOM);
-    let Answer::Accepted(counts) = answer else {
-        return refused(answer);
-    };
+    let counts = messages::either::lm_message(message, &mut values, &mut packed, ROOM)?;
     let length = counts.values - header_values(message) - 1;
     let start = message.len() - length;
-    Found::At(Span {
+    Ok(Span {
         start: OctetSize(start),
         length: OctetSize(length),
     })
@@ -108,8 +85,7 @@ pub fn user_data_place(message: &[u8]) -> Found
 pub fn user_data(message: &[u8]) -> &[u8]
     ensures { (result.now ≡ part_of message.now (user_data_found message.now)) × (result.ref_ptr.0 ≡ message.entry.ref_ptr.0) × (result.ref_ptr.1 ≡ message.entry.ref_ptr.1 + start_of (user_data_found message.now)) }
 {
-    let found = user_data_place(message);
-    let Found::At(span) = found else {
+    let Ok(span) = user_data_place(message) else {
         return &message[..0];
     };
     let start = span.start.0;

@@ -1,8 +1,7 @@
 -- Laws of two's complement on 64 bits: it is the machine's own, and what -1 less a number is.
-use Prim.Native.Nat.{ℕ, zero, suc, ◌-◌, ◌≤◌, ◌<◌, ◌^◌}
-use mathlib.Core.Path.{◌≡◌, refl, sym, ap, ◌∙◌}
+use Prim.Native.Nat.{ℕ, suc, ◌-◌, ◌<◌, ◌^◌}
+use mathlib.Core.Path.{◌≡◌, refl, ap, ◌∙◌}
 use mathlib.Core.Bool.{Bool, true, false, cond}
-use native.Mathlib.Nat.{zero-add}
 use native.Mathlib.Omega.{arith}
 use borrow.Author.Tests.{ltb-true, le-ltb}
 use lib.Dec.{ltb}
@@ -10,7 +9,7 @@ use lib.IntN.{ℤ, pos, negsuc, ◌-ℤ◌}
 use lib.Signed.{mag, lt_z}
 use mir.Syntax.{w64}
 use mir.Val.{SFits, to_z, of_z, sel}
-use mir.Facts.{to_z-of_z, to_z_pos, Fits-of_z}
+use mir.Facts.{to_z-of_z, Fits-of_z}
 use Rattle.values.specs.Values.{complement, uncomplement}
 
 pub complement-of_z : (v : ℤ) → complement v ≡ of_z w64 v
@@ -43,10 +42,6 @@ complement-uncomplement n h = go (ltb n (2 ^ 63))
     go false = omega arith
 
 -- -1 less a number has the other sign and the same magnitude
-minus_one_less_pos : (n : ℕ) → negsuc 0 -ℤ pos n ≡ negsuc n
-minus_one_less_pos zero = refl
-minus_one_less_pos (suc n) = ap (λ (k : ℕ). negsuc (suc k)) (zero-add n)
-
 minus_one_less_negsuc : (n : ℕ) → negsuc 0 -ℤ negsuc n ≡ pos n
 minus_one_less_negsuc n =
     let e : suc n - 1 ≡ n = omega arith in
@@ -84,14 +79,3 @@ pub record Positive (v : ℤ) : Type 0 where
 pub positive : (v : ℤ) → SFits w64 v → lt_z (to_z w64 (of_z w64 v)) (pos 0) ≡ false → Positive v
 positive (pos n) f l = record { size = n; small = f.sfits; is = refl; held = to_z-of_z {w = w64} f }
 positive (negsuc n) f l = absurd (apart (rw (to_z-of_z {w = w64} f) at l))
-
--- the upper half of 64 bits read back
-module _ (n : ℕ) (f : n < 2 ^ 64) (h : 9223372036854775808 ≤ n) where
-  upper_is : negsuc 0 -ℤ to_z w64 (18446744073709551615 - n) ≡ negsuc (18446744073709551615 - n)
-  upper_is = rw (to_z_pos w64 {n = 18446744073709551615 - n} (omega arith)) (minus_one_less_pos (18446744073709551615 - n))
-
-  pub upper_fits : SFits w64 (negsuc 0 -ℤ to_z w64 (18446744073709551615 - n))
-  upper_fits = rw upper_is (record { sfits = omega arith })
-
-  pub upper-uncomplement : to_z w64 (of_z w64 (negsuc 0 -ℤ to_z w64 (18446744073709551615 - n))) ≡ uncomplement n
-  upper-uncomplement = to_z-of_z {w = w64} upper_fits ∙ upper_is ∙ sym (rw (le-ltb n (2 ^ 63) h))

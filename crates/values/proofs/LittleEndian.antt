@@ -1,11 +1,12 @@
 -- Laws of numbers as octets, the lowest first.
 use Prim.Native.Nat.{ℕ, zero, suc, ◌+◌, ◌*◌, ◌/◌, ◌%◌, ◌≤◌, ◌<◌, ◌^◌}
-use mathlib.Core.Path.{◌≡◌, refl, ap, ◌∙◌}
+use mathlib.Core.Path.{◌≡◌, refl, ap}
 use mathlib.Core.List.{List, [], ◌∷◌}
 use native.Mathlib.Omega.{arith}
 use native.Mathlib.Nat.{pow-succ'}
-use lib.ListN.{length, get_or, take, drop, set}
-use lib.Seq.{drop-cons, sets}
+use lib.ListN.{length, get_or, take, drop}
+use lib.Seq.{drop-cons}
+use Rattle.std.specs.Int.{w64, to_le_bytes, from_le_bytes}
 use Rattle.values.specs.Values.{little_endian, little_number}
 
 pub length-little_endian : (k n : ℕ) → length (little_endian k n) ≡ k
@@ -48,27 +49,23 @@ take-drop-four o at k h =
     let e4 : at + 4 ≡ suc (suc (suc (suc at))) = omega arith in
     rw (e1, e2, e3, e4, drop-cons o at 0 (omega arith), drop-cons o (suc at) 0 (omega arith), drop-cons o (suc (suc at)) 0 (omega arith), drop-cons o (suc (suc (suc at))) 0 (omega arith))
 
--- four octets spell the lower half of what eight do
-pub little_number-halves : (o : List ℕ) (at : ℕ) → at + 8 ≤ length o
-    → little_number (take 8 (drop at o)) ≡ little_number (take 4 (drop at o)) + 4294967296 * little_number (take 4 (drop (at + 4) o))
-little_number-halves o at h = rw (take-drop-four o at 4 (omega arith), take-drop-four o at 0 (omega arith)) (omega arith)
+-- the library writes a number's octets in this order, and reads them so
+pub to_le_bytes-little_endian : (n : ℕ) → to_le_bytes w64 n ≡ little_endian 8 n
+to_le_bytes-little_endian n =
+    let d2 : n / 65536 ≡ n / 256 / 256 = omega arith in
+    let d3 : n / 16777216 ≡ n / 256 / 256 / 256 = omega arith in
+    let d4 : n / 4294967296 ≡ n / 256 / 256 / 256 / 256 = omega arith in
+    let d5 : n / 1099511627776 ≡ n / 256 / 256 / 256 / 256 / 256 = omega arith in
+    let d6 : n / 281474976710656 ≡ n / 256 / 256 / 256 / 256 / 256 / 256 = omega arith in
+    let d7 : n / 72057594037927936 ≡ n / 256 / 256 / 256 / 256 / 256 / 256 / 256 = omega arith in
+    rw (d2, d3, d4, d5, d6, d7) refl
 
--- four stores, one by one, and eight as two times four
-module _ (o : List ℕ) (at n : ℕ) where
-  pub sets-four :
-      set (set (set (set o at (n % 256)) (at + 1) (n / 256 % 256)) (at + 2) (n / 65536 % 256)) (at + 3) (n / 16777216 % 256)
-      ≡ sets o at (little_endian 4 n)
-  sets-four =
-      let e1 : at + 1 ≡ suc at = omega arith in
-      let e2 : at + 2 ≡ suc (suc at) = omega arith in
-      let e3 : at + 3 ≡ suc (suc (suc at)) = omega arith in
-      let d2 : n / 65536 ≡ n / 256 / 256 = omega arith in
-      let d3 : n / 16777216 ≡ n / 256 / 256 / 256 = omega arith in
-      rw (e1, e2, e3, d2, d3)
-
-  pub sets-eight : (o₁ o₂ : List ℕ) → o₁ ≡ sets o at (little_endian 4 n) → o₂ ≡ sets o₁ (at + 4) (little_endian 4 (n / 4294967296))
-      → o₂ ≡ sets o at (little_endian 8 n)
-  sets-eight o₁ o₂ f g =
-      let e : at + 4 ≡ suc (suc (suc (suc at))) = omega arith in
-      let d : n / 4294967296 ≡ n / 256 / 256 / 256 / 256 = omega arith in
-      g ∙ rw (f, e, d)
+-- the library reads eight octets so, given one by one
+pub from_le_bytes-little_number : (o : List ℕ) (at : ℕ) → at + 8 ≤ length o
+    → from_le_bytes w64 (get_or o at 0 ∷ get_or o (at + 1) 0 ∷ get_or o (at + 2) 0 ∷ get_or o (at + 3) 0 ∷ get_or o (at + 4) 0 ∷ get_or o (at + 5) 0 ∷ get_or o (at + 6) 0 ∷ get_or o (at + 7) 0 ∷ [])
+    ≡ little_number (take 8 (drop at o))
+from_le_bytes-little_number o at h =
+    let e5 : at + 4 + 1 ≡ at + 5 = omega arith in
+    let e6 : at + 4 + 2 ≡ at + 6 = omega arith in
+    let e7 : at + 4 + 3 ≡ at + 7 = omega arith in
+    rw (take-drop-four o at 4 (omega arith), take-drop-four o (at + 4) 0 (omega arith), e5, e6, e7) (omega arith)

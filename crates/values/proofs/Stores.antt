@@ -10,7 +10,8 @@ use lib.Dec.{leb}
 use lib.IntN.{ℤ, pos}
 use lib.Signed.{mag}
 use lib.ListN.{length, get_or, take, drop, set, replicate, length-append}
-use lib.Seq.{take_at, drop_at, drop-drop, sets, sets-eq, length-sets}
+use Rattle.std.proofs.lemmas.List.Edits.{paste_all}
+use lib.Seq.{paste, take_at, drop_at, drop-drop, sets, sets-eq, length-sets}
 use Rattle.values.specs.Values.{complement, uncomplement, little_number, value_octets, list_octets, values_from, values_in, set_value, store_all}
 use Rattle.values.specs.TwosComplement.{Fitting}
 use Rattle.values.proofs.Complement.{complement_lt, uncomplement-complement}
@@ -91,6 +92,13 @@ module _ (o : List ℕ) (i : ℕ) (v : ℤ) where
       let e : 8 * i + length (value_octets v) ≡ 8 * i + 8 = ap (λ (k : ℕ). 8 * i + k) (length-value_octets v) in
       rw (le-leb (8 * i + 8) (length o) h)
       (sym (sets-between (value_octets v) o (8 * i) (omega arith) ∙ ap (λ (k : ℕ). take (8 * i) o ++ (value_octets v ++ drop k o)) e))
+
+  -- its octets written over those of the index
+  pub set_value-paste : (ys : List ℕ) (n : ℕ) → ys ≡ value_octets v → n ≡ 8 → 8 * i + 8 ≤ length o → paste o (8 * i) ys n ≡ set_value o i v
+  unfolding set_value
+  set_value-paste ys n e f h =
+      let k : n ≡ length ys = f ∙ sym (ap length e ∙ length-value_octets v) in
+      paste_all o (8 * i) ys n k ∙ rw (e, f, le-leb (8 * i + 8) (length o) h) refl
 
   pub set_value-out : length o < 8 * i + 8 → set_value o i v ≡ o
   unfolding set_value

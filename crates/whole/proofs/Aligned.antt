@@ -18,10 +18,9 @@ use Rattle.items.specs.Walk.{walk, forget}
 use Rattle.items.proofs.ReadItems.{read-sound}
 use Rattle.whole.specs.Sized.{number_sized}
 use Rattle.whole.proofs.Cut.{width-octets}
-use Rattle.read_steps.specs.Reads.{State, cursor_at, step_of, Reads}
+use Rattle.read_steps.specs.Reads.{State, cursor_at, step_of, Reads, Step}
 use Rattle.read_steps.specs.declared.Cursor.{Cursor}
-use Rattle.read_steps.specs.declared.Step.{Step}
-use Rattle.read_steps.specs.declared.Step.TheVariants.{Past}
+use Rattle.std.proofs.Common.{Ok}
 
 -- with r bits before them, items end with an octet
 abbrev EndsOctet : ℕ → Items → Type 0
@@ -97,14 +96,14 @@ whole_number n l h = whole_one (number (pos 0) (2 ^ (8 * n) - 1)) (number-octets
 
 -- that read such items from an octet's first bit on
 pub aligned_after : {p : Items} {message : List ℕ} {room : ℕ} {from : State} {values : List ℤ} {packed : List ℕ} {step : Step} {c : Cursor}
-    → Whole p → from.cursor.place.0 % 8 ≡ 0 → Reads message room p from values packed step → step ≡ Past c → c.place.0 % 8 ≡ 0
+    → Whole p → from.cursor.place.0 % 8 ≡ 0 → Reads message room p from values packed step → step ≡ Ok c → c.place.0 % 8 ≡ 0
 unfolding walk
 aligned_after {p} {message} {room} {from} {c = c} w h r e = go (read_items p (drop at (unpack message)) (room - from.cursor.count) at) refl (sym e ∙ r.agrees.answer)
   where
     at : ℕ
     at = from.cursor.place.0
 
-    go : (x : Reading) → read_items p (drop at (unpack message)) (room - from.cursor.count) at ≡ x → Past c ≡ step_of from.cursor.count (forget x) → c.place.0 % 8 ≡ 0
+    go : (x : Reading) → read_items p (drop at (unpack message)) (room - from.cursor.count) at ≡ x → Ok c ≡ step_of from.cursor.count (forget x) → c.place.0 % 8 ≡ 0
     go (stuck refusal) q s = let z : ◌≡◌ {A = ℕ} 0 1 = cc in absurd (omega arith)
     go (done vs n b) q s =
         let so = read-sound p (drop at (unpack message)) (room - from.cursor.count) at vs n b q in

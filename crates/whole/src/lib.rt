@@ -5,14 +5,12 @@ ghost use Rattle.std.specs.Prelude.{◌≡◌, ◌+◌, ◌*◌, ◌%◌, ◌<�
 ghost use Rattle.bits.specs.Access.{most_octets, fetched};
 ghost use Rattle.bits.specs.Bits.{number_of, unpack};
 ghost use Rattle.values.specs.Values.{set_value};
-ghost use Rattle.item.specs.declared.Item.TheVariants.{Value};
 ghost use Rattle.whole.specs.Sized.{number_sized};
 ghost use Rattle.read_steps.specs.Reads.{Reads, state_at, kept_step, kept_in};
 
-use answer::Refusal;
-use bits::{BitPlace, Fetched};
-use item::Item;
-use read_steps::{Cursor, Step};
+use answer::{Reason, Refusal};
+use bits::BitPlace;
+use read_steps::Cursor;
 
 // The number that one octet, two or three spell, all of them there.
 fn spelt(message: &[u8], at: usize, octets: usize) -> u64
@@ -31,18 +29,18 @@ fn spelt(message: &[u8], at: usize, octets: usize) -> u64
 }
 
 // One octet, two or three from a place on, as a number.
-pub fn fetch(message: &[u8], place: BitPlace, octets: usize) -> Fetched
+pub fn fetch(message: &[u8], place: BitPlace, octets: usize) -> Option<(u32, BitPlace)>
     requires { (length message.now ≤ most_octets) × (place.0 % 8 ≡ 0) × (1 ≤ octets) × (octets ≤ 3) }
     ensures { result ≡ fetched message.now place.0 (8 * octets) }
 {
     let from = place.0;
-    let first = BitPlace::octets_before(place);
+    let first = place.octets_before();
     let at = first.0;
     if message.len() < at + octets {
-        return Fetched::Short;
+        return None;
     }
     let number = spelt(message, at, octets);
-    Fetched::Bits(number as u32, BitPlace(from + 8 * octets))
+    Some((number as u32, BitPlace(from + 8 * octets)))
 }
 
 // A number that was read is kept, where there is room for it.
@@ -53,11 +51,10 @@ pub fn keep(
     packed: &mut [u8],
     room: usize,
     cursor: Cursor,
-) -> Step
-    ensures { (result ≡ kept_step (Value (pos number) next) room cursor) × (values.new ≡ kept_in set (Value (pos number) next) room cursor.count values.old) × (packed.new ≡ kept_in set_value (Value (pos number) next) room cursor.count packed.old) }
+) -> Result<Cursor, Refusal>
+    ensures { (result ≡ kept_step (Ok (pos number, next)) room cursor) × (values.new ≡ kept_in set (Ok (pos number, next)) room cursor.count values.old) × (packed.new ≡ kept_in set_value (Ok (pos number, next)) room cursor.count packed.old) }
 {
-    let item = Item::Value(number as i64, next);
-    read_steps::kept(item, values, packed, room, cursor)
+    read_steps::keep(i64::from(number), next, values, packed, room, cursor)
 }
 
 // A number of one octet or two, kept.
@@ -68,13 +65,13 @@ pub fn number(
     packed: &mut [u8],
     room: usize,
     cursor: Cursor,
-) -> Step
+) -> Result<Cursor, Refusal>
     requires { (length message.now ≤ most_octets) × (cursor.place.0 % 8 ≡ 0) × (1 ≤ octets) × (octets ≤ 2) }
     ensures { Reads message.now room (number_sized octets) (state_at cursor values.old packed.old) values.new packed.new result }
 {
     let f = fetch(&*message, cursor.place, octets);
-    let Fetched::Bits(number, next) = f else {
-        return Step::Refused(Refusal::new(Refusal::MESSAGE_ENDS, cursor.place.0));
+    let Some((number, next)) = f else {
+        return Err(Refusal::new(Reason::MessageEnds, cursor.place.0));
     };
     keep(number, next, values, packed, room, cursor)
 }

@@ -6,17 +6,14 @@ ghost use Rattle.std.specs.Prelude.{◌≡◌, ◌+◌, ◌-◌, ◌*◌, ◌/�
 ghost use Rattle.bits.specs.Access.{most_octets};
 ghost use Rattle.window.specs.Window.{four_at, window_at, with_window, placed};
 
-fn wide(x: u8) -> u64
-    ensures { result ≡ x }
-{
-    x as u64
-}
-
 // The octet at i, or 0 past the end.
 pub fn octet(s: &[u8], i: usize) -> u64
     ensures { (result ≡ get_or s.now i 0) × (result < 256) }
 {
-    if i < s.len() { wide(s[i]) } else { 0 }
+    match s.get(i) {
+        Some(octet) => u64::from(*octet),
+        None => 0,
+    }
 }
 
 // An octet that is there.
@@ -24,7 +21,7 @@ pub fn octet_inside(s: &[u8], i: usize) -> u64
     requires { i < length s.now }
     ensures { (result ≡ get_or s.now i 0) × (result < 256) }
 {
-    wide(s[i])
+    u64::from(s[i])
 }
 
 // Five octets as one number, a on top.
@@ -40,11 +37,7 @@ fn four_inside(s: &[u8], i: usize) -> u64
     requires { (i ≤ most_octets) × (i + 3 < length s.now) }
     ensures { (result ≡ four_at s.now i) × (result < 2 ^ 32) }
 {
-    let a = octet_inside(s, i);
-    let b = octet_inside(s, i + 1);
-    let c = octet_inside(s, i + 2);
-    let d = octet_inside(s, i + 3);
-    a * 16777216 + b * 65536 + c * 256 + d
+    u64::from(u32::from_be_bytes([s[i], s[i + 1], s[i + 2], s[i + 3]]))
 }
 
 // Five octets from i on, all of them there.
@@ -86,11 +79,7 @@ pub fn put_window(s: &mut [u8], i: usize, window: u64)
     requires { i ≤ most_octets }
     ensures { s.new ≡ with_window s.old i window }
 {
-    let a = (window / 4294967296 % 256) as u8;
-    let b = (window / 16777216 % 256) as u8;
-    let c = (window / 65536 % 256) as u8;
-    let d = (window / 256 % 256) as u8;
-    let e = (window % 256) as u8;
+    let [_, _, _, a, b, c, d, e] = window.to_be_bytes();
     if i + 4 < s.len() {
         s[i] = a;
         s[i + 1] = b;
@@ -111,7 +100,7 @@ pub fn power(k: u32) -> u64
     requires { k ≤ 40 }
     ensures { (result ≡ 2 ^ k) × (0 < result) }
 {
-    1u64 << k
+    1 << k
 }
 
 // The k bits of a number of 40 bits that follow its first few. Two shifts, whatever the width: the first drops the bits before
@@ -140,5 +129,5 @@ pub fn replace(window: u64, below: u32, k: u32, v: u32) -> u64
     ensures { result ≡ placed window below k v }
 {
     let replaced = window & raised(power(k) - 1, k, below);
-    window - replaced + raised(v as u64, k, below)
+    window - replaced + raised(u64::from(v), k, below)
 }

@@ -20,27 +20,19 @@ use Rattle.encoding.specs.Rows.{presence, items}
 use Rattle.encoding.proofs.RowItems.{items-number}
 use Rattle.parts.proofs.Records.{presence-always, presence-optional}
 use Rattle.write_steps.specs.declared.Cursor.{Cursor}
-use Rattle.write_steps.specs.declared.Given.{Given}
-use Rattle.write_steps.specs.declared.Given.TheVariants.{Missing}
-use Rattle.write_steps.specs.declared.Step.{Step}
-use Rattle.write_steps.specs.declared.Step.TheVariants.{Past, Refused}
-use Rattle.write_begin.specs.declared.Begun.TheVariants.{Run, Numbers, Fields}
-use Rattle.write_steps.specs.Writes.{State, state_at, Writes, Continues, Gives, missing_at}
+use Rattle.write_steps.specs.Writes.{Given, Step, State, state_at, Writes, Continues, Gives}
 use Rattle.write_steps.proofs.Putting.{Putting, first_missing, first_refused, first_put}
-use Rattle.write_begin.specs.Begins.{whole_of, run_of, Begins, Marks}
-use Rattle.write_steps.proofs.Flow.{continues-trans, continues_same, continues-done}
+use Rattle.write_begin.specs.Begins.{Begins, Marks}
+use Rattle.write_steps.proofs.Flow.{continues-trans, continues_same}
+use Rattle.std.proofs.Common.{Ok, Err}
+use Rattle.parts.specs.Left.{run_of}
+use Rattle.parts.specs.declared.Left.TheVariants.{Run, Numbers}
 
 -- ── rows ──
 
--- a row that was written whole leaves nothing
-pub begins-writes : (t : List ℕ) (o : ℕ) {list : List ℤ} {p : Items} {from : State} {output : List ℕ} (step : Step)
-    → Writes list p from output step → Begins t o list p from output (whole_of step)
-begins-writes t o (Past to) w = continues-done w
-begins-writes t o (Refused refusal) w = w
-
 -- a number row alone is a run of one
 pub begins-number : {t : List ℕ} (obeys : Obeys t) {o : ℕ} (starts : Starts t o) → u16 t (o + 2) ≡ 1 → {list : List ℤ} {from : State}
-    → Begins t o list (items t o) from from.output (Numbers 1 o from.cursor)
+    → Begins t o list (items t o) from from.output (Ok (Numbers 1 o, from.cursor))
 unfolding one times
 begins-number {t} obeys {o} starts kind =
     let row = number-row obeys starts kind in
@@ -48,10 +40,10 @@ begins-number {t} obeys {o} starts kind =
 
 -- so many times an earlier row: numbers, where it is a number row
 pub begins-run : {t : List ℕ} (obeys : Obeys t) (o count row : ℕ) → o < length t → Earlier t o row → {list : List ℤ} {p : Items} {from : State} {output : List ℕ}
-    {to : Cursor} → Continues list p from (times count (items t row)) (state_at to output) → Begins t o list p from output (run_of t count row to)
+    {to : Cursor} → Continues list p from (times count (items t row)) (state_at to output) → Begins t o list p from output (Ok (run_of t count row, to))
 begins-run {t} obeys o count row inside earlier {list} {p} {from} {output} {to} f = go (eqb (u16 t (row + 2)) 1) refl
   where
-    go : (b : Bool) → eqb (u16 t (row + 2)) 1 ≡ b → Begins t o list p from output (cond b (Numbers count row to) (Run count row to))
+    go : (b : Bool) → eqb (u16 t (row + 2)) 1 ≡ b → Begins t o list p from output (Ok (cond b (Numbers count row) (Run count row), to))
     go true e =
         let r = number-row obeys (earlier.0, omega (arith, earlier.1, inside)) (eqb-true _ _ e) in
         (r.1, continues-trans f (continues_same (ap (times count) (items-number t row _ _ r.0))))
@@ -61,7 +53,7 @@ begins-run {t} obeys o count row inside earlier {list} {p} {from} {output} {to} 
 
 -- a field that is always there
 pub marks-always : (flag mask : ℕ) {list : List ℤ} {from : State} (marked : ℕ) → flag ≡ 0 → marked ≡ mask * 2 + 1
-    → Marks flag mask list from from.output (Fields marked from.cursor)
+    → Marks flag mask list from from.output (Ok (marked, from.cursor))
 marks-always flag mask marked ef em =
     let odd : marked % 2 ≡ 1 = omega arith in
     (omega arith, λ flags k. continues_same (rw odd (presence-always flag flags k ef)))
@@ -72,14 +64,14 @@ marked_rest flags k v = presence flags (λ ps. k (eqb (natural v) 1 ∷ ps))
 
 -- an optional field by its presence value
 module _ {flag : ℕ} (optional : flag ≢ 0) {list : List ℤ} {from : State} {output : List ℕ} where
-  pub marks-missing : (given : Given) (refusal : Refusal) → Gives list from.cursor.index given → given ≡ Missing → refusal ≡ missing_at from.cursor.index
-      → (flags : List ℕ) (k : List Bool → Items) → Writes list (presence (flag ∷ flags) k) from output (Refused refusal)
-  marks-missing given refusal g e er flags k = first_missing (number (pos 0) 1) (marked_rest flags k) (presence-optional flag flags k optional) given refusal g e er
+  pub marks-missing : (given : Given) {refusal : Refusal} → Gives list from.cursor.index given → given ≡ Err refusal
+      → (flags : List ℕ) (k : List Bool → Items) → Writes list (presence (flag ∷ flags) k) from output (Err refusal)
+  marks-missing given g e flags k = first_missing (number (pos 0) 1) (marked_rest flags k) (presence-optional flag flags k optional) given g e
 
-  pub marks-refused : {v : ℤ} {step : Step} {refusal : Refusal} → Putting (number (pos 0) 1) list from output v step → step ≡ Refused refusal
-      → (flags : List ℕ) (k : List Bool → Items) → Writes list (presence (flag ∷ flags) k) from output (Refused refusal)
+  pub marks-refused : {v : ℤ} {step : Step} {refusal : Refusal} → Putting (number (pos 0) 1) list from output v step → step ≡ Err refusal
+      → (flags : List ℕ) (k : List Bool → Items) → Writes list (presence (flag ∷ flags) k) from output (Err refusal)
   marks-refused q e flags k = first_refused (number (pos 0) 1) (marked_rest flags k) (presence-optional flag flags k optional) q e
 
-  pub marks-bit : (mask marked : ℕ) {v : ℤ} {step : Step} {to : Cursor} → Putting (number (pos 0) 1) list from output v step → step ≡ Past to
-      → marked / 2 ≡ mask → eqb (marked % 2) 1 ≡ eqb (natural v) 1 → Marks flag mask list from output (Fields marked to)
+  pub marks-bit : (mask marked : ℕ) {v : ℤ} {step : Step} {to : Cursor} → Putting (number (pos 0) 1) list from output v step → step ≡ Ok to
+      → marked / 2 ≡ mask → eqb (marked % 2) 1 ≡ eqb (natural v) 1 → Marks flag mask list from output (Ok (marked, to))
   marks-bit mask marked q e em eb = (em, λ flags k. rw eb (first_put (number (pos 0) 1) (marked_rest flags k) (presence-optional flag flags k optional) q e))

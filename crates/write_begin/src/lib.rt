@@ -10,50 +10,12 @@ ghost use Rattle.rules.specs.Rules.{Obeys, Starts};
 ghost use Rattle.encoding.specs.Rows.{items};
 ghost use Rattle.write_steps.specs.Writes.{list_in, state_at};
 ghost use Rattle.parts.specs.Parts.{NoChoice};
-ghost use Rattle.write_begin.specs.Begins.{Begins, Marks, Chooses, Leads, run_of, whole_of};
+ghost use Rattle.write_begin.specs.Begins.{Begins, Marks, Chooses, Leads};
 
 use answer::Refusal;
+use parts::Left;
 use row::Row;
-use write_steps::{Cursor, Given, Step};
-
-// Where choices lead: the row at an offset, which is left to be written; or the refusal.
-#[derive(Clone, Copy)]
-pub enum Chosen {
-    Row(usize, Cursor),
-    Refused(Refusal),
-}
-
-// What a row's own items leave to be written: nothing, a run of the row at an offset, numbers of the number row at an offset, the
-// fields of the record that a mask marks as present (the first field on top); or the refusal.
-#[derive(Clone, Copy)]
-pub enum Begun {
-    Done(Cursor),
-    Run(usize, usize, Cursor),
-    Numbers(usize, usize, Cursor),
-    Fields(u32, Cursor),
-    Refused(Refusal),
-}
-
-// A step as the beginning of a row that asks for no more.
-fn whole(step: Step) -> Begun
-    ensures { result ≡ whole_of step }
-{
-    match step {
-        Step::Past(next) => Begun::Done(next),
-        Step::Refused(refusal) => Begun::Refused(refusal),
-    }
-}
-
-// A run of the row at an offset: of numbers, where it is a number row.
-fn run_of(table: &[u8], count: usize, row: usize, next: Cursor) -> Begun
-    requires { row + 4 ≤ length table.now }
-    ensures { result ≡ run_of table.now count row next }
-{
-    if Row::kind_at(table, row) == Row::NUMBER {
-        return Begun::Numbers(count, row, next);
-    }
-    Begun::Run(count, row, next)
-}
+use write_steps::Cursor;
 
 // A counted run: a length, which leaves that many items of the row that it refers to.
 fn begin_counted(
@@ -63,22 +25,16 @@ fn begin_counted(
     packed: &[u8],
     output: &mut [u8],
     cursor: Cursor,
-) -> Begun
+) -> Result<(Left, Cursor), Refusal>
     requires { Obeys table.now × Starts table.now at × (u16 table.now (at + 2) ≡ 4) × (length output.old ≤ most_octets) }
     ensures { Begins table.now at (list_in values.now packed.now) (items table.now at) (state_at cursor output.old) output.new result }
 {
-    let given = write_steps::next_value(values, packed, cursor.index);
-    let Given::Value(value, after) = given else {
-        return Begun::Refused(write_steps::missing(cursor.index));
-    };
+    let (value, after) = write_steps::next_value(values, packed, cursor.index)?;
     let most = Row::count_at(table, at);
     let row = Row::run_at(table, at);
     let put = write_item::length(output, cursor.place, 0, most as u32, value);
-    let step = write_steps::moved(put, cursor.index, after);
-    let Step::Past(next) = step else {
-        return whole(step);
-    };
-    run_of(table, item::count_of(value), row, next)
+    let next = write_steps::moved(put, cursor.index, after)?;
+    Ok((parts::run_of(table, item::count_of(value), row), next))
 }
 
 // A choice: an index, which leaves the row of its branch.
@@ -89,21 +45,15 @@ fn choose(
     packed: &[u8],
     output: &mut [u8],
     cursor: Cursor,
-) -> Chosen
+) -> Result<(usize, Cursor), Refusal>
     requires { Obeys table.now × Starts table.now at × (u16 table.now (at + 2) ≡ 6) × (length output.old ≤ most_octets) }
     ensures { Chooses table.now at (list_in values.now packed.now) (state_at cursor output.old) output.new result }
 {
-    let given = write_steps::next_value(values, packed, cursor.index);
-    let Given::Value(value, after) = given else {
-        return Chosen::Refused(write_steps::missing(cursor.index));
-    };
+    let (value, after) = write_steps::next_value(values, packed, cursor.index)?;
     let branches = Row::count_at(table, at);
     let put = write_item::index(output, cursor.place, table, at + Row::HEAD, branches, value);
-    let step = write_steps::moved(put, cursor.index, after);
-    match step {
-        Step::Past(next) => Chosen::Row(Row::branch_at(table, at, item::count_of(value)), next),
-        Step::Refused(refusal) => Chosen::Refused(refusal),
-    }
+    let next = write_steps::moved(put, cursor.index, after)?;
+    Ok((Row::branch_at(table, at, item::count_of(value)), next))
 }
 
 // The row that the choices from an offset on lead to: the row there, where it is no choice.
@@ -114,21 +64,18 @@ pub fn follow(
     packed: &[u8],
     output: &mut [u8],
     cursor: Cursor,
-) -> Chosen
+) -> Result<(usize, Cursor), Refusal>
     requires { Obeys table.now × Starts table.now at × (length output.old ≤ most_octets) }
     ensures { Leads table.now at (list_in values.now packed.now) (state_at cursor output.old) output.new result }
 {
     let mut row = at;
     let mut here = cursor;
     while Row::kind_at(table, row) == Row::CHOICE {
-        let chosen = choose(table, row, values, packed, output, here);
-        let Chosen::Row(branch, next) = chosen else {
-            return chosen;
-        };
+        let (branch, next) = choose(table, row, values, packed, output, here)?;
         row = branch;
         here = next;
     }
-    Chosen::Row(row, here)
+    Ok((row, here))
 }
 
 // A field's mark behind those before it: set where the field is always there, else by its presence value, whose bit is written.
@@ -139,26 +86,20 @@ fn mark(
     packed: &[u8],
     output: &mut [u8],
     cursor: Cursor,
-) -> Begun
+) -> Result<(u32, Cursor), Refusal>
     requires { (mask < 2147483648) × (length output.old ≤ most_octets) }
     ensures { Marks flag mask (list_in values.now packed.now) (state_at cursor output.old) output.new result }
 {
     if flag == 0 {
-        return Begun::Fields(mask * 2 + 1, cursor);
+        return Ok((mask * 2 + 1, cursor));
     }
-    let given = write_steps::next_value(values, packed, cursor.index);
-    let Given::Value(value, after) = given else {
-        return Begun::Refused(write_steps::missing(cursor.index));
-    };
+    let (value, after) = write_steps::next_value(values, packed, cursor.index)?;
     let put = write_item::number(output, cursor.place, 0, 1, value);
-    let step = write_steps::moved(put, cursor.index, after);
-    let Step::Past(next) = step else {
-        return whole(step);
-    };
+    let next = write_steps::moved(put, cursor.index, after)?;
     if item::count_of(value) == 1 {
-        return Begun::Fields(mask * 2 + 1, next);
+        return Ok((mask * 2 + 1, next));
     }
-    Begun::Fields(mask * 2, next)
+    Ok((mask * 2, next))
 }
 
 // A record: a presence value for each optional field, which leave the fields that are present.
@@ -169,25 +110,20 @@ fn begin_record(
     packed: &[u8],
     output: &mut [u8],
     cursor: Cursor,
-) -> Begun
+) -> Result<(Left, Cursor), Refusal>
     requires { Obeys table.now × Starts table.now at × (u16 table.now (at + 2) ≡ 5) × (length output.old ≤ most_octets) }
     ensures { Begins table.now at (list_in values.now packed.now) (items table.now at) (state_at cursor output.old) output.new result }
 {
     let fields = Row::count_at(table, at);
-    let mut field = 0;
     let mut mask = 0u32;
     let mut here = cursor;
-    while field < fields {
+    for field in 0..fields {
         let flag = Row::flag_at(table, at, field);
-        let begun = mark(flag, mask, values, packed, output, here);
-        let Begun::Fields(marked, next) = begun else {
-            return begun;
-        };
+        let (marked, next) = mark(flag, mask, values, packed, output, here)?;
         mask = marked;
         here = next;
-        field += 1;
     }
-    Begun::Fields(mask, here)
+    Ok((Left::Fields(mask), here))
 }
 
 // The row at an offset, which is no choice: its own items, and what they leave.
@@ -198,21 +134,27 @@ pub fn begin(
     packed: &[u8],
     output: &mut [u8],
     cursor: Cursor,
-) -> Begun
+) -> Result<(Left, Cursor), Refusal>
     requires { Obeys table.now × Starts table.now at × NoChoice table.now at × (length output.old ≤ most_octets) }
     ensures { Begins table.now at (list_in values.now packed.now) (items table.now at) (state_at cursor output.old) output.new result }
 {
     let kind = Row::kind_at(table, at);
     match kind {
-        Row::NUMBER => Begun::Numbers(1, at, cursor), // a run of one
-        Row::VARIABLE => whole(write_leaf::variable(values, packed, output, cursor)),
+        Row::NUMBER => Ok((Left::Numbers(1, at), cursor)), // a run of one
+        Row::VARIABLE => {
+            let next = write_leaf::variable(values, packed, output, cursor)?;
+            Ok((Left::Nothing, next))
+        }
         Row::FIXED_RUN => {
             let count = Row::count_at(table, at);
             let row = Row::run_at(table, at);
-            run_of(table, count, row, cursor)
+            Ok((parts::run_of(table, count, row), cursor))
         }
         Row::COUNTED_RUN => begin_counted(table, at, values, packed, output, cursor),
         Row::RECORD => begin_record(table, at, values, packed, output, cursor),
-        _ => whole(write_leaf::octets(table, at, values, packed, output, cursor)),
+        _ => {
+            let next = write_leaf::octets(table, at, values, packed, output, cursor)?;
+            Ok((Left::Nothing, next))
+        }
     }
 }

@@ -7,55 +7,44 @@ ghost use Rattle.bits.specs.Bits.{bits_of, unpack};
 ghost use Rattle.bits.specs.Access.{most_octets, overwritten};
 ghost use Rattle.item.specs.Code.{Code, variable_ones, length_ones};
 ghost use Rattle.item.specs.Answers.{put_at, bits_after, branches_at};
-ghost use Rattle.write_item.specs.Steps.{within, put_of};
+ghost use Rattle.write_item.specs.Steps.{distance_of, put_of};
 
-use answer::Refusal;
-use bits::{BitPlace, Stored};
-use item::{Form, Put};
+use answer::Reason;
+use bits::BitPlace;
+use item::Form;
 
-// A value's distance above the lowest, where it is at most a span.
-#[derive(Clone, Copy)]
-enum Offset {
-    Within(u32),
-    Outside,
-}
-
-// Compares before it subtracts, so that no value overflows.
-fn distance(value: i64, low: i64, span: u32) -> Offset
+// A value's distance above the lowest, which is at most a span. Compares before it subtracts, so that no value overflows.
+fn distance(value: i64, low: i64, span: u32) -> Result<u32, Reason>
     requires { mag low ≤ 2147483648 }
-    ensures { result ≡ within span (value -ℤ low) }
+    ensures { result ≡ distance_of span (value -ℤ low) }
 {
-    if value < low {
-        return Offset::Outside;
+    let high = low + i64::from(span);
+    if value < low || high < value {
+        return Err(Reason::WrongValue);
     }
-    let high = low + span as i64;
-    if high < value {
-        return Offset::Outside;
-    }
-    Offset::Within((value - low) as u32)
+    Ok((value - low) as u32)
 }
 
 // Stores the k bits of n from a place on.
-fn put_bits(output: &mut [u8], place: BitPlace, k: u32, n: u32) -> Put
+fn put_bits(output: &mut [u8], place: BitPlace, k: u32, n: u32) -> Result<BitPlace, Reason>
     requires { (length output.old ≤ most_octets) × (k ≤ 32) × (n < 2 ^ k) }
     ensures { (result ≡ put_of output.old place.0 k) × (unpack output.new ≡ overwritten (unpack output.old) place.0 (bits_of k n)) }
 {
-    let s = access::store(output, place, k, n);
-    match s {
-        Stored::Next(next) => Put::Next(next),
-        Stored::Full => Put::Unfit(Refusal::NO_ROOM),
-    }
+    access::store(output, place, k, n).ok_or(Reason::NoRoom)
 }
 
 // A number: its distance above low, in the fewest bits for the span.
-pub fn number(output: &mut [u8], place: BitPlace, low: i64, span: u32, value: i64) -> Put
+pub fn number(
+    output: &mut [u8],
+    place: BitPlace,
+    low: i64,
+    span: u32,
+    value: i64,
+) -> Result<BitPlace, Reason>
     requires { (length output.old ≤ most_octets) × (mag low ≤ 2147483648) }
     ensures { (result ≡ put_at (Code.number low span) output.old place.0 value) × (unpack output.new ≡ bits_after (Code.number low span) (unpack output.old) place.0 value) }
 {
-    let d = distance(value, low, span);
-    let Offset::Within(n) = d else {
-        return Put::Unfit(Refusal::WRONG_VALUE);
-    };
+    let n = distance(value, low, span)?;
     put_bits(output, place, item::width(span), n)
 }
 
@@ -75,14 +64,11 @@ fn variable_ones(n: u32) -> u32
 }
 
 // A variable number.
-pub fn variable(output: &mut [u8], place: BitPlace, value: i64) -> Put
+pub fn variable(output: &mut [u8], place: BitPlace, value: i64) -> Result<BitPlace, Reason>
     requires { length output.old ≤ most_octets }
     ensures { (result ≡ put_at Code.variable output.old place.0 value) × (unpack output.new ≡ bits_after Code.variable (unpack output.old) place.0 value) }
 {
-    let d = distance(value, 0, Form::LARGEST);
-    let Offset::Within(n) = d else {
-        return Put::Unfit(Refusal::WRONG_VALUE);
-    };
+    let n = distance(value, 0, Form::LARGEST)?;
     let form = Form::after_ones(variable_ones(n));
     put_bits(output, place, form.bits, form.leading + (n - form.base))
 }
@@ -95,19 +81,19 @@ fn length_ones(n: u32) -> u32
 }
 
 // A length, from least to most.
-pub fn length(output: &mut [u8], place: BitPlace, least: u32, most: u32, value: i64) -> Put
+pub fn length(
+    output: &mut [u8],
+    place: BitPlace,
+    least: u32,
+    most: u32,
+    value: i64,
+) -> Result<BitPlace, Reason>
     requires { length output.old ≤ most_octets }
     ensures { (result ≡ put_at (Code.length_within least most) output.old place.0 value) × (unpack output.new ≡ bits_after (Code.length_within least most) (unpack output.old) place.0 value) }
 {
-    let d = distance(value, 0, Form::LARGEST_LENGTH);
-    let Offset::Within(n) = d else {
-        return Put::Unfit(Refusal::WRONG_VALUE);
-    };
-    if n < least {
-        return Put::Unfit(Refusal::WRONG_VALUE); // below its least
-    }
-    if most < n {
-        return Put::Unfit(Refusal::WRONG_VALUE); // above its most
+    let n = distance(value, 0, Form::LARGEST_LENGTH)?;
+    if n < least || most < n {
+        return Err(Reason::WrongValue);
     }
     let form = Form::after_ones(length_ones(n));
     put_bits(output, place, form.bits, form.leading + n)
@@ -121,17 +107,14 @@ pub fn index(
     from: usize,
     m: usize,
     value: i64,
-) -> Put
+) -> Result<BitPlace, Reason>
     requires { (length output.old ≤ most_octets) × (1 ≤ m) × (m ≤ 128) × (from + 2 * m ≤ length table.now) }
     ensures { (result ≡ put_at (Code.index (branches_at table.now from m)) output.old place.0 value) × (unpack output.new ≡ bits_after (Code.index (branches_at table.now from m)) (unpack output.old) place.0 value) }
 {
     let last = (m - 1) as u32;
-    let d = distance(value, 0, last);
-    let Offset::Within(n) = d else {
-        return Put::Unfit(Refusal::WRONG_VALUE);
-    };
+    let n = distance(value, 0, last)?;
     if !item::has_branch(table, from, m, n as usize) {
-        return Put::Unfit(Refusal::WRONG_VALUE); // a reserved branch
+        return Err(Reason::WrongValue); // a reserved branch
     }
     put_bits(output, place, item::width(last), n)
 }

@@ -12,8 +12,9 @@ ghost use Rattle.items.specs.Items.{one, times};
 ghost use Rattle.encoding.specs.Rows.{items};
 ghost use Rattle.write_steps.specs.Writes.{Writes, list_in, state_at};
 
+use answer::Refusal;
 use row::Row;
-use write_steps::{Cursor, Given, Step};
+use write_steps::Cursor;
 
 // A number row.
 pub fn number(
@@ -23,14 +24,11 @@ pub fn number(
     packed: &[u8],
     output: &mut [u8],
     cursor: Cursor,
-) -> Step
+) -> Result<Cursor, Refusal>
     requires { (at + 12 ≤ length table.now) × (length output.old ≤ most_octets) }
     ensures { Writes (list_in values.now packed.now) (one (Code.number (signed (u32 table.now (at + 4))) (u32 table.now (at + 8)))) (state_at cursor output.old) output.new result }
 {
-    let given = write_steps::next_value(&*values, &*packed, cursor.index);
-    let Given::Value(value, after) = given else {
-        return Step::Refused(write_steps::missing(cursor.index));
-    };
+    let (value, after) = write_steps::next_value(&*values, &*packed, cursor.index)?;
     let low = Row::low_at(table, at);
     let span = Row::span_at(table, at);
     let put = write_item::number(output, cursor.place, low, span as u32, value);
@@ -46,7 +44,7 @@ pub fn numbers(
     packed: &[u8],
     output: &mut [u8],
     cursor: Cursor,
-) -> Step
+) -> Result<Cursor, Refusal>
     requires { (at + 12 ≤ length table.now) × (length output.old ≤ most_octets) }
     ensures { Writes (list_in values.now packed.now) (times count (one (Code.number (signed (u32 table.now (at + 4))) (u32 table.now (at + 8))))) (state_at cursor output.old) output.new result }
 {
@@ -61,14 +59,16 @@ pub fn numbers(
 }
 
 // A variable number row.
-pub fn variable(values: &[i64], packed: &[u8], output: &mut [u8], cursor: Cursor) -> Step
+pub fn variable(
+    values: &[i64],
+    packed: &[u8],
+    output: &mut [u8],
+    cursor: Cursor,
+) -> Result<Cursor, Refusal>
     requires { length output.old ≤ most_octets }
     ensures { Writes (list_in values.now packed.now) (one Code.variable) (state_at cursor output.old) output.new result }
 {
-    let given = write_steps::next_value(&*values, &*packed, cursor.index);
-    let Given::Value(value, after) = given else {
-        return Step::Refused(write_steps::missing(cursor.index));
-    };
+    let (value, after) = write_steps::next_value(&*values, &*packed, cursor.index)?;
     let put = write_item::variable(output, cursor.place, value);
     write_steps::moved(put, cursor.index, after)
 }
@@ -81,22 +81,16 @@ pub fn octets(
     packed: &[u8],
     output: &mut [u8],
     cursor: Cursor,
-) -> Step
+) -> Result<Cursor, Refusal>
     requires { Obeys table.now × Starts table.now at × (is_octets (u16 table.now (at + 2)) ≡ true) × (length output.old ≤ most_octets) }
     ensures { Writes (list_in values.now packed.now) (items table.now at) (state_at cursor output.old) output.new result }
 {
-    let given = write_steps::next_value(&*values, &*packed, cursor.index);
-    let Given::Value(value, after) = given else {
-        return Step::Refused(write_steps::missing(cursor.index));
-    };
+    let (value, after) = write_steps::next_value(&*values, &*packed, cursor.index)?;
     let kind = Row::kind_at(table, at);
     let least = Row::least_length(kind);
     let most = Row::count_at(table, at);
     let put = write_item::length(output, cursor.place, least, most as u32, value);
-    let step = write_steps::moved(put, cursor.index, after);
-    let Step::Past(next) = step else {
-        return step;
-    };
+    let next = write_steps::moved(put, cursor.index, after)?;
     let count = item::count_of(value);
     write_steps::write_octets(count, &*values, &*packed, output, next)
 }

@@ -1,18 +1,29 @@
 -- Values put as octets one after another, from whichever list they come.
 -- Assumes nothing.
 use Prim.Native.Nat.{ℕ, zero, suc, ◌+◌, ◌-◌, ◌*◌, ◌≤◌, ◌<◌}
-use mathlib.Core.Bool.{Bool, true}
+use mathlib.Core.Bool.{Bool, true, false}
+use borrow.Author.Tests.{lt-ltb, le-ltb}
+use Rattle.std.specs.Int.{FitsUnsignedBits}
 use mathlib.Core.Path.{◌≡◌, refl, sym, ap, ◌∙◌}
 use mathlib.Core.List.{List, ◌++◌, append-nil, append_assoc}
 use native.Mathlib.Omega.{arith}
 use native.Mathlib.Decide.{dec_lt}
-use lib.IntN.{ℤ, pos, nat_abs}
+use lib.IntN.{ℤ, pos, negsuc, nat_abs}
 use lib.ListN.{length, get_or, length-append, get_or-append}
 use Rattle.bits.specs.Bits.{bits_of, unpack}
 use Rattle.bits.specs.Access.{overwritten}
 use Rattle.bits.proofs.Access.{overwritten-overwritten, overwritten_none}
 use Rattle.bits.proofs.Bits.{length-bits_of, length-unpack}
 use Rattle.write_runs.specs.Runs.{is_octet, octet_bits, Puts}
+
+-- what a conversion to an octet finds
+pub octet-fits : (v : ℤ) → FitsUnsignedBits 8 v → is_octet v ≡ true
+octet-fits (pos n) h = lt-ltb n 256 h
+octet-fits (negsuc n) h = absurd h
+
+pub octet-not : (v : ℤ) → (FitsUnsignedBits 8 v → ⊥) → is_octet v ≡ false
+octet-not (pos n) h = le-ltb n 256 (elim (dec_lt n 256) [ yes l ↦ absurd (h l) | no l ↦ omega arith ])
+octet-not (negsuc n) h = refl
 
 pub length-octet_bits : (n : ℕ) (list : List ℤ) (i : ℕ) → length (octet_bits n list i) ≡ 8 * n
 unfolding octet_bits

@@ -2,30 +2,12 @@
 // test alone, whether a value is an octet.
 #![tactic(auto)]
 
-ghost use Rattle.std.specs.Prelude.{true, false, ◌++◌, ◌≡◌, ◌+◌, ◌-◌, ◌*◌, ◌/◌, ◌<◌, ◌≤◌, pos, nat_abs, length, get_or};
+ghost use Rattle.std.specs.Prelude.{false, ◌++◌, ◌≡◌, ◌+◌, ◌-◌, ◌*◌, ◌/◌, ◌<◌, ◌≤◌, pos, length, get_or};
 ghost use Rattle.bits.specs.Access.{most_octets};
 ghost use Rattle.values.specs.Values.{values_in};
 ghost use Rattle.write_runs.specs.Runs.{is_octet, reach, Puts, Written};
 
 use bits::{BitPlace, OctetSize};
-
-// Whether a value is an octet.
-fn is_octet(value: i64) -> bool
-    ensures { result ≡ is_octet value }
-{
-    if value < 0 {
-        return false;
-    }
-    value < 256
-}
-
-// A value that is an octet.
-fn octet_of(value: i64) -> u8
-    requires { is_octet value ≡ true }
-    ensures { result ≡ nat_abs value }
-{
-    value as u8
-}
 
 // Puts values into the output, the first so many bits into an octet, up to the first that is no octet; tells how many.
 fn write_numbers(
@@ -39,17 +21,14 @@ fn write_numbers(
     requires { (into < 8) × (count ≤ length values.now - index) × (8 * count ≤ 8 * length output.old - (8 * at + into)) }
     ensures { (result ≤ count) × (result < count → is_octet (get_or values.now (index + result) (pos 0)) ≡ false) × Puts values.now index result output.old (8 * at + into) output.new }
 {
-    let mut done = 0;
     let mut last = window::octet(output, at);
-    while done < count {
-        let value = values[index + done];
-        if !is_octet(value) {
+    for done in 0..count {
+        let Ok(octet) = u8::try_from(values[index + done]) else {
             return done;
-        }
-        last = access::put_octet(output, at + done, into, last, octet_of(value));
-        done += 1;
+        };
+        last = access::put_octet(output, at + done, into, last, octet);
     }
-    done
+    count
 }
 
 // The same, of values that are eight octets each.
@@ -64,17 +43,14 @@ fn write_packed(
     requires { (into < 8) × (count ≤ length packed.now / 8 - index) × (8 * count ≤ 8 * length output.old - (8 * at + into)) }
     ensures { (result ≤ count) × (result < count → is_octet (get_or (values_in packed.now) (index + result) (pos 0)) ≡ false) × Puts (values_in packed.now) index result output.old (8 * at + into) output.new }
 {
-    let mut done = 0;
     let mut last = window::octet(output, at);
-    while done < count {
-        let value = values::value_in(packed, index + done);
-        if !is_octet(value) {
+    for done in 0..count {
+        let Ok(octet) = u8::try_from(values::value_in(packed, index + done)) else {
             return done;
-        }
-        last = access::put_octet(output, at + done, into, last, octet_of(value));
-        done += 1;
+        };
+        last = access::put_octet(output, at + done, into, last, octet);
     }
-    done
+    count
 }
 
 // Puts up to count values into the output from a place on: as many as there are and there is room for, up to the first that is
@@ -90,12 +66,12 @@ pub fn write(
     requires { length output.old ≤ most_octets }
     ensures { Written (values.now ++ values_in packed.now) (reach values.now packed.now) index count output.old place.0 result output.new }
 {
-    let first = BitPlace::octets_before(place);
-    let into = BitPlace::bits_into_octet(place);
+    let first = place.octets_before();
+    let into = place.bits_into_octet();
     let end = BitPlace::after(OctetSize(output.len()));
     let there = OctetSize::between(place, end);
     let room = values::fitting(there.0, 0, count);
-    if values.len() == 0 {
+    if values.is_empty() {
         let listed = values::fitting(packed.len() / 8, index, room);
         return write_packed(packed, index, listed, output, first.0, into);
     }

@@ -17,7 +17,6 @@ use Rattle.bits.specs.Bits.{bits_of, unpack, pack}
 use Rattle.bits.specs.Access.{overwritten}
 use Rattle.bits.proofs.Bits.{length-unpack, length-pack, pack-unpack, unpack-take}
 use Rattle.bits.proofs.Access.{overwritten_inside, overwritten-overwritten}
-use Rattle.answer.specs.declared.Answer.TheVariants.{Refused}
 use Rattle.answer.specs.declared.Refusal.{Refusal}
 use Rattle.items.specs.Items.{Items}
 use Rattle.items.specs.Encoding.{size, padding, padded}
@@ -26,10 +25,9 @@ use Rattle.items.specs.Spell.{Spell, spelled, barred, spell, close_spell}
 use Rattle.items.specs.Slices.{output_after}
 use Rattle.items.proofs.Spells.{encode-spell, Within, spell_within}
 use Rattle.write_steps.specs.declared.Cursor.{Cursor}
-use Rattle.write_steps.specs.declared.Step.{Step}
-use Rattle.write_steps.specs.declared.Step.TheVariants.{Past, Refused as StepRefused}
-use Rattle.write_steps.specs.Writes.{cursor_at, state_at, Agrees, Writes}
+use Rattle.write_steps.specs.Writes.{Step, cursor_at, state_at, Agrees, Writes}
 use Rattle.write_steps.specs.Ends.{WrittenBy, Ended, ended_answer, written_count}
+use Rattle.std.proofs.Common.{Ok, Err}
 
 take_past : (n : ℕ) (xs : List ℕ) (i : ℕ) → n ≤ i → get_or (take n xs) i 0 ≡ 0
 take_past zero xs i h = refl
@@ -43,9 +41,6 @@ zeros-are : (k : ℕ) → bits_of k 0 ≡ replicate k false
 unfolding bits_of
 zeros-are zero = refl
 zeros-are (suc k) = rw (lt-leb (2 ^ k) 0 (pow_pos k)) (ap (false ∷◌) (zeros-are k))
-
-pub none_below : (k : ℕ) → 0 < 2 ^ k
-none_below k = pow_pos k
 
 module _ (old mid new : List ℕ) (b : List Bool) (some : 0 < length old) (fits : length b ≤ 8 * length old)
     (lm : length mid ≡ length old) (ln : length new ≡ length old) (octets : (i : ℕ) → get_or new i 0 < 256)
@@ -96,13 +91,13 @@ module _ (p : Items) (vs : List ℤ) (old mid : List ℕ) (step : Step) (most : 
   encoded : encode p vs (length old) ≡ close_spell (length vs) (length old) (spell p vs (8 * length old) 0)
   encoded = let m : min (length old) 65535 ≡ length old = omega arith in encode-spell p vs (length old) ∙ ap (λ k. close_spell (length vs) (length old) (spell p vs (8 * k) 0)) m
 
-  pub root-unwritten : (refusal : Refusal) → step ≡ StepRefused refusal
-      → (Refused refusal ≡ write_answer (encode p vs (length old))) × WrittenBy (encode p vs (length old)) mid
+  pub root-unwritten : (refusal : Refusal) → step ≡ Err refusal
+      → (Err refusal ≡ write_answer (encode p vs (length old))) × WrittenBy (encode p vs (length old)) mid
   root-unwritten refusal e = rw encoded (go (spell p vs (8 * length old) 0) (by_spell (spell p vs (8 * length old) 0) refl))
     where
-      go : (s : Spell) → Agrees 0 old mid step s → (Refused refusal ≡ write_answer (close_spell (length vs) (length old) s)) × WrittenBy (close_spell (length vs) (length old) s) mid
+      go : (s : Spell) → Agrees 0 old mid step s → (Err refusal ≡ write_answer (close_spell (length vs) (length old) s)) × WrittenBy (close_spell (length vs) (length old) s) mid
       go (spelled b i) a = let z : ◌≡◌ {A = ℕ} 0 1 = cc a.answer in absurd (omega arith)
-      go (barred by) a = let q : StepRefused by ≡ StepRefused refusal = sym a.answer ∙ e in (cc, tt)
+      go (barred by) a = let q : Err by ≡ Err refusal = sym a.answer ∙ e in (cc, tt)
 
   -- where the root ends
   pub record Ends (c : Cursor) : Type 0 where
@@ -112,13 +107,13 @@ module _ (p : Items) (vs : List ℤ) (old mid : List ℕ) (step : Step) (most : 
     pub stands : unpack mid ≡ overwritten (unpack old) 0 bits
     pub outcome : encode p vs (length old) ≡ close_spell (length vs) (length old) (spelled bits c.index)
 
-  pub root_ends : (c : Cursor) → step ≡ Past c → Ends c
+  pub root_ends : (c : Cursor) → step ≡ Ok c → Ends c
   root_ends c e = go (spell p vs (8 * length old) 0) refl (by_spell (spell p vs (8 * length old) 0) refl) (spell_within p vs (8 * length old) 0)
     where
       go : (s : Spell) → spell p vs (8 * length old) 0 ≡ s → Agrees 0 old mid step s → Within (8 * length old) s → Ends c
       go (barred refusal) q a w = let z : ◌≡◌ {A = ℕ} 0 1 = cc a.answer in absurd (omega arith)
       go (spelled b i) q a w =
-          let ec : cursor_at (0 + length b) i ≡ c = (let y : Past (cursor_at (0 + length b) i) ≡ Past c = sym a.answer ∙ e in cc) in
+          let ec : cursor_at (0 + length b) i ≡ c = (let y : Ok (cursor_at (0 + length b) i) ≡ Ok c = sym a.answer ∙ e in cc) in
           let ei : c.index ≡ i = sym (ap (λ (x : Cursor). x.index) ec) in
           record {
             bits = b;

@@ -18,9 +18,9 @@ use Rattle.items.specs.Items.{Items, ask, ◌then◌, one, times}
 use Rattle.items.specs.Spell.{spelled, spell}
 use Rattle.items.proofs.Spells.{spell-stop, spell-put}
 use Rattle.items.proofs.Runs.{run_first}
-use Rattle.write_steps.specs.declared.Step.TheVariants.{Past}
 use Rattle.write_steps.specs.Writes.{cursor_at, State, state_at, Writes, Continues}
 use Rattle.write_steps.proofs.Flow.{continues-trans, continues_same, continues_part}
+use Rattle.std.proofs.Common.{Ok}
 
 abbrev octet : Code
 octet = number (pos 0) 255
@@ -72,6 +72,6 @@ module _ (list : List ℤ) where
       let most = w.most in
       let all : count ≡ n + (count - n) = omega arith in
       let e = spell-octets n (8 * length s.output - p) i (omega arith) w.listed w.puts.octets in
-      let first : Writes list (octets n) s output (Past (cursor_at (p + 8 * n) (i + n))) =
-      record { agrees = λ h. rw e (record { answer = ap (λ (k : ℕ). Past (cursor_at (p + k) (i + n))) (sym (length-octet_bits n list i)); output = w.puts.output }) } in
+      let first : Writes list (octets n) s output (Ok (cursor_at (p + 8 * n) (i + n))) =
+      record { agrees = λ h. rw e (record { answer = ap (λ (k : ℕ). Ok (cursor_at (p + k) (i + n))) (sym (length-octet_bits n list i)); output = w.puts.output }) } in
       continues-trans (continues_same (ap octets all ∙ octets-append n (count - n))) (continues_part (octets n) (octets (count - n)) first refl)

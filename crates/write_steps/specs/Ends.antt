@@ -1,26 +1,17 @@
 -- The end of a message that is written, and what writing leaves in the output before its rest is zeroed. No contract of a public
 -- call cites this file.
-use Rattle.std.specs.Prelude.{ℕ, ◌-◌, ◌*◌, ◌≤◌, ◌<◌, cond, ◌≡◌, List, ltb, eqb, length, take}
+use Rattle.std.specs.Prelude.{ℕ, ◌-◌, ◌*◌, ◌≤◌, ◌<◌, cond, ◌≡◌, List, ltb, eqb, length, take, Ok, Err}
 use Rattle.bits.specs.Bits.{bits_of, unpack}
 use Rattle.bits.specs.Access.{overwritten}
-use Rattle.answer.specs.Numbers.{accepted, refused, wrong_value, no_room}
-use Rattle.answer.specs.declared.Answer.{Answer}
-use Rattle.answer.specs.declared.Answer.TheVariants.{Accepted, Refused}
+use Rattle.answer.specs.Numbers.{accepted, refused, wrong_value, no_room, Answer}
 use Rattle.items.specs.Encoding.{size}
 use Rattle.items.specs.Writing.{WriteOutcome, written, unwritten}
 use Rattle.write_steps.specs.declared.Cursor.{Cursor}
-use Rattle.write_steps.specs.declared.Step.{Step}
-use Rattle.write_steps.specs.declared.Step.TheVariants.{Past, Refused as StepRefused}
 
 -- an accepted outcome's octets stand at the output's start; a refusal leaves anything
 abbrev pub WrittenBy : WriteOutcome → List ℕ → Type 0
 WrittenBy (written s) new = (length s ≤ length new) × (take (length s) new ≡ s)
 WrittenBy (unwritten refusal) new = Unit {0}
-
--- a step as an answer
-abbrev pub writer_answer : Step → Answer
-writer_answer (Past c) = accepted 0 0 0
-writer_answer (StepRefused refusal) = Refused refusal
 
 -- the end of a message of n values into cap octets, whose root ends at a cursor
 abbrev pub ended_answer : ℕ → ℕ → Cursor → Answer
@@ -35,5 +26,5 @@ Ended n old new c =
 
 -- how many octets an answer says were written
 abbrev pub written_count : Answer → ℕ
-written_count (Accepted counts) = counts.octets.0
-written_count (Refused refusal) = 0
+written_count (Ok counts) = counts.octets.0
+written_count (Err refusal) = 0

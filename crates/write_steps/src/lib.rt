@@ -8,76 +8,45 @@ ghost use Rattle.bits.specs.Access.{most_octets};
 ghost use Rattle.item.specs.Code.{Code};
 ghost use Rattle.items.specs.Items.{one, times};
 ghost use Rattle.write_steps.specs.Writes.{Writes, list_in, state_at, Gives, missing_at, moved_step};
-ghost use Rattle.write_steps.specs.Ends.{Ended, ended_answer, writer_answer, written_count};
+ghost use Rattle.write_steps.specs.Ends.{Ended, ended_answer, written_count};
 
-use answer::{Answer, Refusal};
+use answer::{Answer, Counts, Reason, Refusal};
 use bits::{BitPlace, OctetSize};
-use item::Put;
 
 // Where a writer stands: the next bit of the output, and the index of the next value.
-#[derive(Clone, Copy)]
+#[derive(Clone, Copy, Debug, PartialEq, Eq)]
 pub struct Cursor {
     pub place: BitPlace,
     pub index: usize,
 }
 
-// What writing items gives: the cursor after them, or the refusal, whose place is the index of its value.
-#[derive(Clone, Copy)]
-pub enum Step {
-    Past(Cursor),
-    Refused(Refusal),
-}
-
-impl Step {
-    // The same step, made anew. A step that a call gave and that is given on, the compiler copies piece by piece through memory;
-    // made anew, it stays in registers.
-    pub fn again(step: Step) -> Step
-        ensures { result ≡ step }
-    {
-        match step {
-            Step::Past(cursor) => Step::Past(Cursor {
-                place: BitPlace(cursor.place.0),
-                index: cursor.index,
-            }),
-            Step::Refused(refusal) => Step::Refused(Refusal::new(refusal.number, refusal.place)),
-        }
-    }
-}
-
-// The next value of the list and the index after it, or that the list ends before it.
-#[derive(Clone, Copy)]
-pub enum Given {
-    Value(i64, usize),
-    Missing,
-}
-
-// The value at an index of the list, and the index after it.
-pub fn next_value(values: &[i64], packed: &[u8], index: usize) -> Given
+// The value at an index of the list, and the index after it. One that is missing is refused as a wrong one.
+pub fn next_value(values: &[i64], packed: &[u8], index: usize) -> Result<(i64, usize), Refusal>
     ensures { Gives (list_in values.now packed.now) index result }
 {
     if values::count(values, packed) <= index {
-        return Given::Missing;
+        return Err(missing(index));
     }
-    Given::Value(values::value_at(values, packed, index), index + 1)
+    Ok((values::value_at(values, packed, index), index + 1))
 }
 
 // The refusal of a value that is missing.
-pub fn missing(index: usize) -> Refusal
+fn missing(index: usize) -> Refusal
     ensures { result ≡ missing_at index }
 {
-    Refusal::new(Refusal::WRONG_VALUE, index)
+    Refusal::new(Reason::WrongValue, index)
 }
 
 // The cursor after a value that was put; or the refusal, at the value's index.
-pub fn moved(put: Put, index: usize, after: usize) -> Step
+pub fn moved(put: Result<BitPlace, Reason>, index: usize, after: usize) -> Result<Cursor, Refusal>
     ensures { result ≡ moved_step put index after }
 {
     match put {
-        Put::Next(place) => Step::Past(Cursor {
+        Ok(place) => Ok(Cursor {
             place,
             index: after,
         }),
-        Put::Unfit(number) => Step::Refused(Refusal::new(number, index)),
+        Err(reason) => Err(Refusal::new(reason, index)),
     }
 }
 
@@ -90,26 +59,17 @@ pub fn write_numbers(
     packed: &[u8],
     output: &mut [u8],
     cursor: Cursor,
-) -> Step
+) -> Result<Cursor, Refusal>
     requires { (length output.old ≤ most_octets) × (mag low ≤ 2147483648) }
     ensures { Writes (list_in values.now packed.now) (times count (one (Code.number low span))) (state_at cursor output.old) output.new result }
 {
-    let mut done = 0;
     let mut here = cursor;
-    while done < count {
-        let given = next_value(&*values, &*packed, here.index);
-        let Given::Value(value, after) = given else {
-            return Step::Refused(missing(here.index));
-        };
+    for _ in 0..count {
+        let (value, after) = next_value(&*values, &*packed, here.index)?;
         let put = write_item::number(output, here.place, low, span, value);
-        let step = moved(put, here.index, after);
-        let Step::Past(next) = step else {
-            return step;
-        };
-        here = next;
-        done += 1;
+        here = moved(put, here.index, after)?;
     }
-    Step::Past(here)
+    Ok(here)
 }
 
 // So many octets, each a value: those that are octets, with room for them, at once. What is left is refused at its first.
@@ -119,7 +79,7 @@ pub fn write_octets(
     packed: &[u8],
     output: &mut [u8],
     cursor: Cursor,
-) -> Step
+) -> Result<Cursor, Refusal>
     requires { length output.old ≤ most_octets }
     ensures { Writes (list_in values.now packed.now) (times count (one (Code.number (pos 0) 255))) (state_at cursor output.old) output.new result }
 {
@@ -132,24 +92,13 @@ pub fn write_octets(
         cursor.place,
     );
     let next = Cursor {
-        place: BitPlace::further(cursor.place, OctetSize(done)),
+        place: cursor.place.further(OctetSize(done)),
         index: cursor.index + done,
     };
     if done == count {
-        return Step::Past(next);
+        return Ok(next);
     }
-    let step = write_numbers(count - done, 0, 255, &*values, &*packed, output, next);
-    Step::again(step)
-}
-
-// A step of the root that was refused, as an answer.
-pub fn refused(step: Step) -> Answer
-    ensures { result ≡ writer_answer step }
-{
-    match step {
-        Step::Past(_) => Answer::accepted(0, BitPlace(0), OctetSize(0)),
-        Step::Refused(refusal) => Answer::Refused(refusal),
-    }
+    write_numbers(count - done, 0, 255, &*values, &*packed, output, next)
 }
 
 // The end of a message of so many values whose root ends at a cursor: left over values, an output with no octet, then zero bits
@@ -160,16 +109,16 @@ pub fn finish(count: usize, output: &mut [u8], end: Cursor) -> Answer
 {
     let index = end.index;
     if index < count {
-        return Answer::refused(Refusal::WRONG_VALUE, index);
+        return Err(Refusal::new(Reason::WrongValue, index));
     }
     if output.len() == 0 {
-        return Answer::refused(Refusal::NO_ROOM, count);
+        return Err(Refusal::new(Reason::NoRoom, count));
     }
     let place = end.place;
     let size = OctetSize::holding(place);
     let all = BitPlace::after(size);
     access::replace_in_octet(output, size.0 - 1, 0, (all.0 - place.0) as u32, 0);
-    Answer::accepted(0, BitPlace(0), size)
+    Ok(Counts::new(0, BitPlace(0), size))
 }
 
 // How many octets an answer says were written.
@@ -177,8 +126,8 @@ pub fn written_count(answer: Answer) -> usize
     ensures { result ≡ written_count answer }
 {
     match answer {
-        Answer::Accepted(counts) => counts.octets.0,
-        Answer::Refused(_) => 0,
+        Ok(counts) => counts.octets.0,
+        Err(_) => 0,
     }
 }
 
@@ -186,9 +135,5 @@ pub fn written_count(answer: Answer) -> usize
 pub fn counted_length(length: usize) -> usize
     ensures { result ≡ min length most_octets }
 {
-    if OctetSize::MOST < length {
-        OctetSize::MOST
-    } else {
-        length
-    }
+    length.min(OctetSize::MOST)
 }

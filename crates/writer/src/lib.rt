@@ -11,9 +11,10 @@ ghost use Rattle.encoding.specs.Rows.{items};
 ghost use Rattle.parts.specs.Parts.{NoChoice, marked_fields, field_if};
 ghost use Rattle.write_steps.specs.Writes.{Writes, list_in, state_at};
 
+use answer::Refusal;
+use parts::Left;
 use row::Row;
-use write_begin::{Begun, Chosen};
-use write_steps::{Cursor, Step};
+use write_steps::Cursor;
 
 // The row at an offset.
 #[cycle(write_chosen_write_field_write_fields_write_row_write_run)]
@@ -24,15 +25,12 @@ pub fn write_row(
     packed: &[u8],
     output: &mut [u8],
     cursor: Cursor,
-) -> Step
+) -> Result<Cursor, Refusal>
     requires { Obeys table.now × Starts table.now at × (length output.old ≤ most_octets) }
     ensures { Writes (list_in values.now packed.now) (items table.now at) (state_at cursor output.old) output.new result }
 {
-    let chosen = write_begin::follow(&*table, at, &*values, &*packed, output, cursor);
-    match chosen {
-        Chosen::Row(row, next) => write_chosen(&*table, row, &*values, &*packed, output, next),
-        Chosen::Refused(refusal) => Step::Refused(refusal),
-    }
+    let (row, next) = write_begin::follow(&*table, at, &*values, &*packed, output, cursor)?;
+    write_chosen(&*table, row, &*values, &*packed, output, next)
 }
 
 // The row at an offset, which is no choice.
@@ -44,23 +42,20 @@ fn write_chosen(
     packed: &[u8],
     output: &mut [u8],
     cursor: Cursor,
-) -> Step
+) -> Result<Cursor, Refusal>
     requires { Obeys table.now × Starts table.now at × NoChoice table.now at × (length output.old ≤ most_octets) }
     ensures { Writes (list_in values.now packed.now) (items table.now at) (state_at cursor output.old) output.new result }
 {
-    let begun = write_begin::begin(&*table, at, &*values, &*packed, output, cursor);
-    match begun {
-        Begun::Done(next) => Step::Past(next),
-        Begun::Run(count, row, next) => write_run(
+    let (left, next) = write_begin::begin(&*table, at, &*values, &*packed, output, cursor)?;
+    match left {
+        Left::Nothing => Ok(next),
+        Left::Run(count, row) => write_run(
             &*table, at, row, count, &*values, &*packed, output, next,
         ),
-        Begun::Numbers(count, row, next) => write_leaf::numbers(
+        Left::Numbers(count, row) => write_leaf::numbers(
             &*table, row, count, &*values, &*packed, output, next,
         ),
-        Begun::Fields(mask, next) => write_fields(
-            &*table, at, mask, &*values, &*packed, output, next,
-        ),
-        Begun::Refused(refusal) => Step::Refused(refusal),
+        Left::Fields(mask) => write_fields(&*table, at, mask, &*values, &*packed, output, next),
     }
 }
 
@@ -75,21 +70,15 @@ fn write_run(
     packed: &[u8],
     output: &mut [u8],
     cursor: Cursor,
-) -> Step
+) -> Result<Cursor, Refusal>
     requires { Obeys table.now × Starts table.now at × Earlier table.now at row × (length output.old ≤ most_octets) }
     ensures { Writes (list_in values.now packed.now) (times count (items table.now row)) (state_at cursor output.old) output.new result }
 {
-    let mut done = 0;
     let mut here = cursor;
-    while done < count {
-        let step = write_row(&*table, row, &*values, &*packed, output, here);
-        let Step::Past(next) = step else {
-            return step;
-        };
-        here = next;
-        done += 1;
+    for _ in 0..count {
+        here = write_row(&*table, row, &*values, &*packed, output, here)?;
     }
-    Step::Past(here)
+    Ok(here)
 }
 
 // The fields of the record at an offset that are marked as present.
@@ -102,24 +91,18 @@ fn write_fields(
     packed: &[u8],
     output: &mut [u8],
     cursor: Cursor,
-) -> Step
+) -> Result<Cursor, Refusal>
     requires { Obeys table.now × Starts table.now at × (u16 table.now (at + 2) ≡ 5) × (mask < 2 ^ u16 table.now (at + 4)) × (length output.old ≤ most_octets) }
     ensures { Writes (list_in values.now packed.now) (marked_fields (items table.now) table.now at mask) (state_at cursor output.old) output.new result }
 {
     let fields = Row::count_at(table, at);
-    let mut field = 0;
     let mut here = cursor;
-    while field < fields {
+    for field in 0..fields {
         let row = Row::field_at(table, at, field);
         let present = parts::is_marked(mask, fields, field);
-        let step = write_field(&*table, at, row, present, &*values, &*packed, output, here);
-        let Step::Past(next) = step else {
-            return Step::again(step);
-        };
-        here = next;
-        field += 1;
+        here = write_field(&*table, at, row, present, &*values, &*packed, output, here)?;
     }
-    Step::Past(here)
+    Ok(here)
 }
 
 // A field, where it is present: the row at an offset before `at`. One that refers to no other row is written here, as in reading.
@@ -133,12 +116,12 @@ fn write_field(
     packed: &[u8],
     output: &mut [u8],
     cursor: Cursor,
-) -> Step
+) -> Result<Cursor, Refusal>
     requires { Obeys table.now × Starts table.now at × Earlier table.now at row × (length output.old ≤ most_octets) }
     ensures { Writes (list_in values.now packed.now) (field_if present (items table.now row)) (state_at cursor output.old) output.new result }
 {
     if !present {
-        return Step::Past(cursor);
+        return Ok(cursor);
     }
     let kind = Row::kind_at(table, row);
     match kind {

@@ -15,7 +15,7 @@ ghost use Rattle.write_steps.specs.Ends.{WrittenBy};
 
 use answer::Answer;
 use bits::BitPlace;
-use write_steps::{Cursor, Step};
+use write_steps::Cursor;
 
 // A list under a passed table whose root is at an offset, into at most 65,535 octets: the root, then its end.
 fn write_root(table: &[u8], at: usize, values: &[i64], packed: &[u8], output: &mut [u8]) -> Answer
@@ -26,10 +26,7 @@ fn write_root(table: &[u8], at: usize, values: &[i64], packed: &[u8], output: &m
         place: BitPlace(0),
         index: 0,
     };
-    let step = writer::write_row(table, at, values, packed, output, start);
-    let Step::Past(end) = step else {
-        return write_steps::refused(step);
-    };
+    let end = writer::write_row(table, at, values, packed, output, start)?;
     write_steps::finish(values::count(values, packed), output, end)
 }
 
@@ -47,6 +44,6 @@ pub fn write_known(
     let most = write_steps::counted_length(output.len());
     let answer = write_root(table, at, values, packed, &mut output[..most]);
     let written = write_steps::written_count(answer);
-    values::clear_octets(output, written);
+    values::clear(output, written, 0);
     answer
 }

@@ -16,4 +16,4 @@ pub returns : goal.returns
 returns c =
     let a = c.args in
     let place : 8 * a.at + (16 - (8 - a.into) - 8) ≡ 8 * a.at + a.into = omega arith in
-    (rw (← place) c.replace_in_pair.ensures.0, λ h. c.replace_in_pair.ensures.1)
+    (rw (← place) (rw c.from.ensures at c.replace_in_pair.ensures.0), λ h. c.replace_in_pair.ensures.1)

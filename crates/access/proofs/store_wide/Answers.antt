@@ -8,14 +8,14 @@ use Prim.Native.Nat.{ℕ, ◌+◌, ◌-◌, ◌*◌, ◌≤◌, ◌<◌}
 use lib.ListN.{length, get_or}
 use Rattle.bits.specs.Bits.{bits_of, unpack}
 use Rattle.bits.specs.Access.{stored, overwritten}
-use Rattle.bits.specs.declared.Stored.TheVariants.{Full}
 use Rattle.bits.proofs.Access.{stored_inside, stored_past_end, overwritten_past_end, stored-spliced}
 use Rattle.bits.proofs.Bits.{length-bits_of, length-unpack}
 use Rattle.window.proofs.InWindow.{put_in_window}
 use Rattle.access.proofs.store_wide.Goals as goal
+use Rattle.std.proofs.Common.{None}
 
 -- no room: nothing is stored
-full : (m : List ℕ) (p k v : ℕ) → 8 * length m < p + k → (Full ≡ stored m p k) × (unpack m ≡ overwritten (unpack m) p (bits_of k v))
+full : (m : List ℕ) (p k v : ℕ) → 8 * length m < p + k → (None ≡ stored m p k) × (unpack m ≡ overwritten (unpack m) p (bits_of k v))
 full m p k v h =
     (sym (stored_past_end m p k h), sym (overwritten_past_end (unpack m) p (bits_of k v) (rw (length-unpack, length-bits_of) h)))
 

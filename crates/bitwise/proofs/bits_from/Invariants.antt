@@ -1,12 +1,9 @@
 -- `bitwise::bits_from` meets its contract. Invariant: the number is what so many of the bits spell.
 use mathlib.Core.Path.{◌≡◌}
-use Prim.Native.Nat.{◌-◌, ◌^◌, ◌<◌, ◌≤◌}
+use Prim.Native.Nat.{◌^◌, ◌<◌, ◌≤◌}
 use lib.ListN.{take, drop}
 use Rattle.bits.specs.Bits.{number_of, unpack}
 use Rattle.bitwise.proofs.bits_from.Given as goal
 
 abbrev pub invariant-loop-done : goal.invariant-loop-done
 invariant-loop-done l = (l.done ≤ l.k) × (l.number ≡ number_of (take l.done (drop l.from (unpack l.message)))) × (l.number < 2 ^ 32)
-
-abbrev pub decreases-loop-done : goal.decreases-loop-done
-decreases-loop-done l = l.k - l.done

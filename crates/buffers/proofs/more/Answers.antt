@@ -9,7 +9,7 @@ use Rattle.buffers.specs.declared.State.{State}
 use Rattle.buffers.specs.declared.Led.{Led}
 use Rattle.buffers.specs.declared.Led.TheVariants.{Next}
 use Rattle.buffers.specs.InputOutput.{after_lines, after_write}
-use Rattle.buffers.proofs.AtHand.{read_behind}
+use Rattle.buffers.proofs.AtHand.{at_front, read_behind}
 use Rattle.buffers.proofs.more.Goals as goal
 
 -- what follows a write is `Next` where the output took the lines, and only there
@@ -30,8 +30,9 @@ pub returns : goal.returns
 returns c =
     let s = c.args.s in
     let have = s.end - s.from in
+    let front : take have c.copy_within.new.self ≡ take have (drop s.from c.args.input.now) = rw c.copy_within.ensures.after (at_front c.args.input.now s.from have (omega (arith, c.requires))) in
     let flushed = c.flush-flushed.ensures.1 in
     let input = c.read_behind-count.new.input in
     let count = c.read_behind-count.result in
-    let got = read_behind s c.args.input.now c.move_down.new.input input count c.requires.0 c.requires.2 (c.read_behind-count.auto.input ∙ c.move_down.auto.input ∙ c.requires.2) c.move_down.ensures c.read_behind-count.ensures.kept (omega (arith, c.read_behind-count.ensures.within)) in
+    let got = read_behind s c.args.input.now c.copy_within.new.self input count c.requires.0 c.requires.2 (c.read_behind-count.auto.input ∙ c.copy_within.ensures.len ∙ c.requires.2) front c.read_behind-count.ensures.kept (omega (arith, c.read_behind-count.ensures.within)) in
     rw (c.after_read.ensures, went_on flushed.0 s flushed.1 c.in-Next.is) (got.0, (true, take count (drop have input), got.1))

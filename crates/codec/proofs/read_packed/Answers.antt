@@ -6,7 +6,7 @@ use native.Mathlib.Omega.{arith}
 use lib.ListN.{length}
 use mathlib.Core.List.{List}
 use lib.IntN.{ℤ}
-use Rattle.answer.specs.declared.Answer.{Answer}
+use Rattle.answer.specs.Numbers.{Answer}
 use Rattle.items.specs.Reading.{read_answer, read_values}
 use Rattle.items.specs.Slices.{filled}
 use Rattle.values.specs.Values.{list_octets}
@@ -22,15 +22,15 @@ use Rattle.codec.proofs.read_packed.Goals as goal
 kept-is : (t s : List ℕ) (room : ℕ) (answer : Answer) (kept : ℕ) → kept ≡ kept_count answer → answer ≡ read_answer (message_outcome t s room) → kept ≡ length (read_values (message_outcome t s room))
 kept-is t s room answer kept k e = k ∙ ap kept_count e ∙ count-is (message_outcome t s room)
 
-pub returns-in_default : goal.returns-in_default
+pub returns-in-Err : goal.returns-in-Err
 unfolding list_octets
-returns-in_default c =
+returns-in-Err c =
     let a = c.args in
-    let b = broken-outcome a.table.now a.message.now (length a.packed.now / 8) _ _ c.check-verdict.ensures c.in_default.is in
-    (b.0, c.clear_octets.ensures ∙ ap (λ (vs : List ℤ). filled 0 (length a.packed.now) (list_octets vs)) (sym b.1))
+    let b = broken-outcome a.table.now a.message.now (length a.packed.now / 8) _ _ c.check.ensures c.in-Err.is in
+    (sym c.in-Err.is ∙ b.0, c.clear.ensures ∙ ap (λ (vs : List ℤ). filled 0 (length a.packed.now) (list_octets vs)) (sym b.1))
 
 pub read_passed-answer-requires : goal.read_passed-answer-requires
-read_passed-answer-requires c = (accepted-obeys c.args.table.now _ _ c.check-verdict.ensures c.in-Accepted.is, c.root-root.ensures)
+read_passed-answer-requires c = (accepted-obeys c.args.table.now _ _ c.check.ensures c.in_default.is, c.root-root.ensures)
 
 pub overflow_mul-kept : goal.overflow_mul-kept
 overflow_mul-kept c =
@@ -42,8 +42,8 @@ overflow_mul-kept c =
       message_fits (asks a.table.now) a.message.now n,
     )
 
-pub clear_octets-requires-2 : goal.clear_octets-requires-2
-clear_octets-requires-2 c =
+pub clear-requires-2 : goal.clear-requires-2
+clear-requires-2 c =
     let a = c.args in
     let n = length a.packed.now / 8 in
     omega (
@@ -61,5 +61,5 @@ returns c =
     let k = kept-is a.table.now a.message.now n _ _ c.kept_count-kept.ensures c.read_passed-answer.ensures.0 in
     let k8 : c.kept_count-kept.result * 8 ≡ 8 * length (read_values o) = omega arith in
     let fits : 8 * length (read_values o) ≤ length a.packed.now = omega (arith, message_fits (asks a.table.now) a.message.now n) in
-    rw (passed-outcome a.table.now a.message.now n (accepted-obeys a.table.now _ _ c.check-verdict.ensures c.in-Accepted.is))
-    (c.read_passed-answer.ensures.0, c.clear_octets-2.ensures ∙ rw k8 (settled-packed o a.packed.now _ fits c.read_passed-answer.auto.packed c.read_passed-answer.ensures.2))
+    rw (passed-outcome a.table.now a.message.now n (accepted-obeys a.table.now _ _ c.check.ensures c.in_default.is))
+    (c.read_passed-answer.ensures.0, c.clear-2.ensures ∙ rw k8 (settled-packed o a.packed.now _ fits c.read_passed-answer.auto.packed c.read_passed-answer.ensures.2))

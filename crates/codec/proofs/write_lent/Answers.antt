@@ -10,13 +10,13 @@ use Rattle.reading.proofs.Passed.{accepted-obeys}
 use Rattle.writing.proofs.Passed.{write-broken}
 use Rattle.codec.proofs.write_lent.Goals as goal
 
-pub returns-in_default : goal.returns-in_default
-returns-in_default c =
+pub returns-in-Err : goal.returns-in-Err
+returns-in-Err c =
     let a = c.args in
     let list = list_in a.values.now a.packed.now in
     let n = length a.output.now in
-    let b = write-broken a.table.now list n _ _ c.check-verdict.ensures c.in_default.is in
-    (b.0, c.clear_octets.ensures ∙ ap (λ (s : List ℕ). filled 0 n s) (sym b.1))
+    let b = write-broken a.table.now list n _ _ c.check.ensures c.in-Err.is in
+    (sym c.in-Err.is ∙ b.0, c.clear.ensures ∙ ap (λ (s : List ℕ). filled 0 n s) (sym b.1))
 
 pub write_known-requires : goal.write_known-requires
-write_known-requires c = (accepted-obeys c.args.table.now _ _ c.check-verdict.ensures c.in-Accepted.is, c.root.ensures)
+write_known-requires c = (accepted-obeys c.args.table.now _ _ c.check.ensures c.in_default.is, c.root.ensures)

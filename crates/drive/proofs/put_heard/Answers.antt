@@ -5,7 +5,7 @@ use mathlib.Core.Path.{◌≡◌, ap, ◌∙◌}
 use mathlib.Core.List.{List}
 use native.Mathlib.Omega.{arith}
 use lib.ListN.{length}
-use Rattle.answer.specs.declared.Answer.{Answer}
+use Rattle.answer.specs.Numbers.{Answer}
 use Rattle.forward.specs.Forward.{forward_answer, seen_by}
 use Rattle.forwarding.specs.declared.Forwarded.{Forwarded}
 use Rattle.forwarding.specs.Forwarded.{forwarded_in}
@@ -18,10 +18,10 @@ returns c =
     let m = a.message.now in
     let out = a.out.now in
     let n = length m in
-    let e : List ℕ = c.forward_in-forwarded.new.output in
+    let e : List ℕ = c.forward_in-answer.new.output in
     let size = lent-size out a.at n (omega (arith, c.requires.1)) in
-    let many : length e ≡ n = c.forward_in-forwarded.auto.output ∙ size in
-    let gave = rw size at c.forward_in-forwarded.ensures in
+    let many : length e ≡ n = c.forward_in-answer.auto.output ∙ size in
+    let gave = rw size at c.forward_in-answer.ensures in
     let room = same_room m a.time a.seen (omega (arith, c.requires.0)) in
     let answer = ap (λ (x : Forwarded). x.answer) {y = forwarded_in m a.time a.seen n} gave.0 in
     let list = ap (λ (x : Forwarded). x.seen) {y = forwarded_in m a.time a.seen n} gave.0 in

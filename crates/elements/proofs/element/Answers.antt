@@ -12,31 +12,27 @@ pub returns-then-home-ge-HOMES : goal.returns-then-home-ge-HOMES
 unfolding element_word
 returns-then-home-ge-HOMES c = rw (le-ltb c.args.home 3 (omega arith))
 
-pub loop-i-init : goal.loop-i-init
-loop-i-init c = (omega arith, seek_known c.args.id c.args.home (omega arith))
+pub loop-k-init : goal.loop-k-init
+loop-k-init c = seek_known c.args.id c.args.home (omega arith)
 
-pub returns-then-k-home : goal.returns-then-k-home
+pub returns-then-from-home : goal.returns-then-from-home
 unfolding known
-returns-then-k-home c =
+returns-then-from-home c =
     ap home_of
-    (sym (seek_found _ _ known c.loop-i.i _ (omega arith) (eq-eqb _ _ c.if-k-id.true) true (eq-eqb _ _ c.if-k-home.true))
-    ∙ c.loop-i.invariant.1)
+    (sym (seek_found _ _ known c.loop-k.k-index _ (omega arith) (eq-eqb _ _ (sym c.from.ensures ∙ c.if-from-id.true)) true (eq-eqb _ _ (sym c.from-then-from-id.ensures ∙ c.if-from-home.true)))
+    ∙ c.loop-k.invariant)
 
-pub returns-then-k-id : goal.returns-then-k-id
+pub returns-then-from-id : goal.returns-then-from-id
 unfolding known
-returns-then-k-id c =
+returns-then-from-id c =
     ap home_of
-    (sym (seek_found _ _ known c.loop-i.i _ (omega arith) (eq-eqb _ _ c.if-k-id.true) false (ne_eqb _ _ c.if-k-home.false))
-    ∙ c.loop-i.invariant.1)
+    (sym (seek_found _ _ known c.loop-k.k-index _ (omega arith) (eq-eqb _ _ (sym c.from.ensures ∙ c.if-from-id.true)) false (ne_eqb _ _ (λ e. c.if-from-home.false (c.from-then-from-id.ensures ∙ e))))
+    ∙ c.loop-k.invariant)
 
-pub loop-i-preserved : goal.loop-i-preserved
+pub loop-k-preserved : goal.loop-k-preserved
 unfolding known
-loop-i-preserved c = (
-  omega arith,
-  seek_on _ _ known c.loop-i.i _ (omega arith) (ne_eqb _ _ c.if-k-id.false)
-      ∙ c.loop-i.invariant.1,
-)
+loop-k-preserved c = seek_on _ _ known c.loop-k.k-index _ (omega arith) (ne_eqb _ _ (λ e. c.if-from-id.false (c.from.ensures ∙ e))) ∙ c.loop-k.invariant
 
 pub returns : goal.returns
 unfolding known
-returns c = ap home_of (sym (ap (seek _ _) (drop_of_length-le known c.loop-i-test.false)) ∙ c.loop-i.invariant.1)
+returns c = ap home_of (sym (ap (seek _ _) (drop_of_length-le known c.loop-k-test.false)) ∙ c.loop-k.invariant)

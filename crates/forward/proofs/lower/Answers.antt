@@ -7,5 +7,5 @@ overflow_sub-output c = some_hops c.args.message.now (λ j. (c.type_inv.message 
 
 pub returns : goal.returns
 returns c =
-    rw (c.clear_octets.ensures, c.copy_octets.ensures)
+    rw (c.clear.ensures, c.copy_octets.ensures)
     (lowers c.args.message.now (λ j. (c.type_inv.message j).fits) c.requires.0 c.requires.1 c.args.output.now c.requires.2)

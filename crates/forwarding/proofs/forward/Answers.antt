@@ -1,7 +1,7 @@
 -- `forwarding::forward` meets its contract.
 use mathlib.Core.Path.{◌∙◌, ap}
 use lib.ListN.{length}
-use Rattle.answer.specs.declared.Answer.{Answer}
+use Rattle.answer.specs.Numbers.{Answer}
 use Rattle.forward.specs.Forward.{output_by}
 use Rattle.forward.proofs.Together.{answer_is, list_is, emits}
 use Rattle.forwarding.proofs.forward.Goals as goal
@@ -20,4 +20,4 @@ returns c =
     let n = length a.output.now in
     let e = c.asked-ask.ensures in
     let answer = answer_is m a.time a.seen.now n e c.remember-answer.ensures.0 in
-    (c.emit.ensures.0 ∙ answer, list_is m a.time a.seen.now n e c.remember-answer.ensures.1, c.emit.ensures.1 ∙ ap (λ (k : Answer). output_by k m n) answer)
+    (answer, list_is m a.time a.seen.now n e c.remember-answer.ensures.1, c.emit.ensures ∙ ap (λ (k : Answer). output_by k m n) answer)

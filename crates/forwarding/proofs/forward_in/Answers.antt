@@ -2,7 +2,7 @@
 use mathlib.Core.List.{List}
 use mathlib.Core.Path.{◌∙◌, ap, ap₂}
 use lib.ListN.{length}
-use Rattle.answer.specs.declared.Answer.{Answer}
+use Rattle.answer.specs.Numbers.{Answer}
 use Rattle.seen.specs.declared.Seen.{Seen}
 use Rattle.forward.specs.Forward.{output_by}
 use Rattle.forward.proofs.Together.{answer_is, list_is, emits}
@@ -26,5 +26,5 @@ returns c =
     let answer = answer_is m a.time a.seen n e (ap (λ (k : Forwarded). k.answer) kept) in
     let list = list_is m a.time a.seen n e (ap (λ (k : Forwarded). k.seen) kept) in (
       ap₂ {C = Forwarded} (λ (x : Answer) (rs : List Seen). record { seen = rs; answer = x }) answer list,
-      c.emit.ensures.1 ∙ ap (λ (k : Answer). output_by k m n) answer,
+      c.emit.ensures ∙ ap (λ (k : Answer). output_by k m n) answer,
     )

@@ -5,8 +5,8 @@ use lib.ListN.{length, drop}
 use Rattle.house.specs.House.{whole_frames}
 use Rattle.house.proofs.whole.Given as goal
 
-abbrev pub invariant-loop-at : goal.invariant-loop-at
-invariant-loop-at l = (l.at ≤ length l.octets) × (whole_frames l.octets ≡ l.at + whole_frames (drop l.at l.octets))
+abbrev pub invariant-loop-size : goal.invariant-loop-size
+invariant-loop-size l = (l.at ≤ length l.octets) × (whole_frames l.octets ≡ l.at + whole_frames (drop l.at l.octets))
 
-abbrev pub decreases-loop-at : goal.decreases-loop-at
-decreases-loop-at l = length l.octets - l.at
+abbrev pub decreases-loop-size : goal.decreases-loop-size
+decreases-loop-size l = length l.octets - l.at

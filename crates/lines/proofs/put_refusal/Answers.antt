@@ -4,4 +4,4 @@ use Rattle.lines.proofs.put_refusal.Goals as goal
 
 pub returns-clause-appended : goal.returns-clause-appended
 unfolding refused_line
-returns-clause-appended c = c.put_placed.ensures.appended
+returns-clause-appended c = rw c.from.ensures at c.put_placed.ensures.appended

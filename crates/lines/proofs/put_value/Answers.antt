@@ -10,11 +10,11 @@ use Rattle.lines.proofs.put_value.Goals as goal
 pub returns-then-value-lt0-clause-appended : goal.returns-then-value-lt0-clause-appended
 returns-then-value-lt0-clause-appended c =
     let k = negative c.args.value c.ranges.value c.if-value-lt0.true in
-    let size = c.magnitude.ensures ∙ ap nat_abs (to_z-of_z c.ranges.value) in
+    let size = c.unsigned_abs.ensures.value ∙ ap nat_abs (to_z-of_z c.ranges.value) in
     rw (signed-negative c.args.value k) (rw size at (put_both c.put_text-next.ensures c.put_number.ensures.appended))
 
 pub returns-else-value-lt0-clause-appended : goal.returns-else-value-lt0-clause-appended
 returns-else-value-lt0-clause-appended c =
     let k = positive c.args.value c.ranges.value c.if-value-lt0.false in
-    let size = c.magnitude-else-value-lt0.ensures ∙ ap nat_abs (to_z-of_z c.ranges.value) in
+    let size = c.unsigned_abs-else-value-lt0.ensures.value ∙ ap nat_abs (to_z-of_z c.ranges.value) in
     rw (signed-positive c.args.value k) (rw size at c.put_number-else-value-lt0.ensures.appended)

@@ -9,16 +9,16 @@ use lib.IntN.{pos}
 use Rattle.bits.specs.Bits.{width}
 use Rattle.bits.specs.Access.{place_at, fetched}
 use Rattle.bits.specs.declared.BitPlace.{BitPlace}
-use Rattle.bits.specs.declared.Fetched.TheVariants.{Bits}
 use Rattle.bits.proofs.Access.{fetched-Bits}
 use Rattle.item.specs.Code.{Code, number}
 use Rattle.item.specs.Answers.{item_at}
-use Rattle.item.specs.declared.Item.TheVariants.{Value}
 use Rattle.items.specs.Items.{one}
 use Rattle.read_steps.specs.Reads.{state_at}
-use Rattle.read_steps.proofs.Keeping.{Keeping, keeping, first_refused, first-kept, reads_one}
+use Rattle.read_steps.proofs.Keeping.{Keeping, keeping, item-refused, first_refused, first-kept, reads_one}
 use Rattle.whole.proofs.Cut.{fetched-small, number-ended, number_behind, short-front, kept_place}
 use Rattle.lm_items.specs.Asked.{field_items}
+use Rattle.answer.proofs.Exits.{exit}
+use Rattle.std.proofs.Common.{Ok, Some}
 use Rattle.lm_fields.proofs.hops.Goals as goal
 
 abbrev message_id : Code
@@ -37,13 +37,13 @@ hop-width = refl
 
 -- the two in the number x of three octets
 
-id-at : (m : List ℕ) (p : ℕ) {x : ℕ} {q : BitPlace} → fetched m p 24 ≡ Bits x q → Value (pos (x / 4)) (place_at (p + 22)) ≡ item_at message_id m p
+id-at : (m : List ℕ) (p : ℕ) {x : ℕ} {q : BitPlace} → fetched m p 24 ≡ Some (x, q) → Ok (pos (x / 4), place_at (p + 22)) ≡ item_at message_id m p
 id-at m p {x} e =
     let small = fetched-small m p 24 e in
     let cut : x / 4 % 4194304 ≡ x / 4 = omega arith in
     number_behind m p 24 e 0 22 2 id-width (omega arith) refl cut (omega arith) (sym (add-zero p)) (rw (add-zero p))
 
-hop-at : (m : List ℕ) (p from : ℕ) {x : ℕ} {q : BitPlace} → fetched m p 24 ≡ Bits x q → from ≡ p + 22 → Value (pos (x % 4)) q ≡ item_at hop_count m from
+hop-at : (m : List ℕ) (p from : ℕ) {x : ℕ} {q : BitPlace} → fetched m p 24 ≡ Some (x, q) → from ≡ p + 22 → Ok (pos (x % 4), q) ≡ item_at hop_count m from
 hop-at m p from {x} e at =
     let cut : x / 1 % 4 ≡ x % 4 = omega arith in
     number_behind m p 24 e 22 2 0 hop-width (omega arith) refl cut (omega arith) at (omega (arith, (fetched-Bits m p 24 _ _ e).2))
@@ -56,15 +56,15 @@ returns-in_default c =
     let p = a.cursor.place.0 in
     let short = short-front m p 3 22 c.requires.1 (sym c.fetch-f.ensures ∙ c.in_default.is) (omega arith) in
     rw c.new.ensures
-    (first_refused message_id (λ v. one hop_count) refl (keeping message_id refl (sym (number-ended m p 22 (omega arith) 4194303 id-width short)) (refl, refl, refl)) refl)
+    (item-refused message_id (λ v. one hop_count) refl message_id refl (sym (number-ended m p 22 (omega arith) 4194303 id-width short)) refl)
 
-pub returns-in_default-id : goal.returns-in_default-id
+pub returns-in_err-second : goal.returns-in_err-second
 unfolding field_items one
-returns-in_default-id c =
+returns-in_err-second c =
     let a = c.args in
-    let bits = sym c.fetch-f.ensures ∙ c.in-Bits.is in
-    rw c.in_default-id.is
-    (first_refused message_id (λ v. one hop_count) refl (keeping message_id refl (id-at a.message.now a.cursor.place.0 bits) c.keep-id.ensures) c.in_default-id.is)
+    let bits = sym c.fetch-f.ensures ∙ c.in-Some.is in
+    rw (exit _ c.from_residual.ensures.1)
+    (first_refused message_id (λ v. one hop_count) refl (keeping message_id refl (id-at a.message.now a.cursor.place.0 bits) c.keep.ensures) c.in_err-second.was)
 
 pub returns : goal.returns
 unfolding field_items one
@@ -72,7 +72,7 @@ returns c =
     let a = c.args in
     let m = a.message.now in
     let p = a.cursor.place.0 in
-    let bits = sym c.fetch-f.ensures ∙ c.in-Bits.is in
-    let id-kept : Keeping message_id m a.room (state_at a.cursor a.values.now a.packed.now) _ _ _ _ = keeping message_id refl (id-at m p bits) c.keep-id.ensures in
-    (first-kept message_id (λ v. one hop_count) refl id-kept c.in-Past.is).complete _ _ _
-    (reads_one c.keep.result (keeping hop_count refl (hop-at m p _ bits (kept_place id-kept c.in-Past.is)) c.keep.ensures))
+    let bits = sym c.fetch-f.ensures ∙ c.in-Some.is in
+    let id-kept : Keeping message_id m a.room (state_at a.cursor a.values.now a.packed.now) _ _ _ _ = keeping message_id refl (id-at m p bits) c.keep.ensures in
+    (first-kept message_id (λ v. one hop_count) refl id-kept c.in_ok-second.was).complete _ _ _
+    (reads_one c.keep-2.result (keeping hop_count refl (hop-at m p _ bits (kept_place id-kept c.in_ok-second.was)) c.keep-2.ensures))

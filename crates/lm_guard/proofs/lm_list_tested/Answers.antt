@@ -1,23 +1,40 @@
 -- `lm_guard::lm_list_tested` meets its contract. Each test as it is made.
 -- Assumes nothing.
-use mathlib.Core.Path.{◌∙◌}
-use lib.ListN.{get_or}
+use mathlib.Core.Bool.{false}
+use mathlib.Core.Path.{◌≡◌, ap, ◌∙◌}
+use lib.Dec.{leb}
 use lib.IntN.{pos}
-use Rattle.lm_guard.proofs.ListTests.{version-three, version_other, subtype-negative, subtype-high, subtype-fine, list-short, list-version, list-subtype, list-fine}
+use lib.ListN.{get_or}
 use borrow.Author.Rules.{rules}
+use Rattle.std.proofs.Common.{Ok, Err}
+use Rattle.answer.specs.Numbers.{accepted}
+use Rattle.item.specs.Code.{of_natural}
+use Rattle.lm_guard.proofs.ListTests.{version-three, version_other, subtype-negative, subtype-high, subtype-fine, list-short, list-version, list-subtype, list-fine}
+use Rattle.lm_guard.proofs.lm_list_tested.Goals.{then-subtype-lt0-via-then-subtype-lt0, then-subtype-lt0-via-else-subtype-lt0+then-subtype-gt2}
 use Rattle.lm_guard.proofs.lm_list_tested.Goals as goal
 
-pub returns-then-values-lt3 : goal.returns-then-values-lt3
-returns-then-values-lt3 c = c.refused.ensures ∙ list-short c.args.values.now c.if-values-lt3.true
+pub returns-in_default : goal.returns-in_default
+returns-in_default c = ap Err c.new.ensures ∙ list-short c.args.values.now c.in_default.len_below
 
-pub returns-then-values-ne3 : goal.returns-then-values-ne3
-returns-then-values-ne3 c = c.refused-then-values-ne3.ensures ∙ list-version c.args.values.now c.if-values-lt3.false (version_other (get_or c.args.values.now 2 (pos 0)) (search rules) c.if-values-ne3.true)
+pub returns-then-version-ne3 : goal.returns-then-version-ne3
+returns-then-version-ne3 c =
+    let vs = c.args.values.now in
+    ap Err c.new-then-version-ne3.ensures ∙ list-version vs c.in-len3-up.len_at_least (version_other (get_or vs 2 (pos 0)) (search rules) c.if-version-ne3.true)
 
 pub returns-then-subtype-lt0 : goal.returns-then-subtype-lt0
-returns-then-subtype-lt0 c = c.refused-then-subtype-lt0.ensures ∙ list-subtype c.args.values.now c.if-values-lt3.false (version-three (get_or c.args.values.now 2 (pos 0)) (search rules) c.if-values-ne3.false) (subtype-negative (get_or c.args.values.now 0 (pos 0)) (search rules) c.if-subtype-lt0.true)
-
-pub returns-then-subtype-gt2 : goal.returns-then-subtype-gt2
-returns-then-subtype-gt2 c = c.refused-then-subtype-gt2.ensures ∙ list-subtype c.args.values.now c.if-values-lt3.false (version-three (get_or c.args.values.now 2 (pos 0)) (search rules) c.if-values-ne3.false) (subtype-high (get_or c.args.values.now 0 (pos 0)) (search rules) c.if-subtype-gt2.true)
+returns-then-subtype-lt0 c =
+    let vs = c.args.values.now in
+    let none : of_natural (λ n. leb n 2) (get_or vs 0 (pos 0)) ≡ false =
+    elim c.then-subtype-lt0.branch [
+      | then-subtype-lt0-via-then-subtype-lt0 w ↦ subtype-negative (get_or vs 0 (pos 0)) (search rules) w.if-subtype-lt0.true
+      | then-subtype-lt0-via-else-subtype-lt0+then-subtype-gt2 w ↦ subtype-high (get_or vs 0 (pos 0)) (search rules) w.if-subtype-gt2.true
+    ] in
+    ap Err c.new-then-subtype-lt0.ensures ∙ list-subtype vs c.in-len3-up.len_at_least (version-three (get_or vs 2 (pos 0)) (search rules) c.if-version-ne3.false) none
 
 pub returns : goal.returns
-returns c = c.accepted.ensures ∙ list-fine c.args.values.now c.if-values-lt3.false (version-three (get_or c.args.values.now 2 (pos 0)) (search rules) c.if-values-ne3.false) (subtype-fine (get_or c.args.values.now 0 (pos 0)) (search rules) c.if-subtype-lt0.false c.if-subtype-gt2.false)
+returns c =
+    let vs = c.args.values.now in
+    let nothing : Ok c.default.result ≡ accepted 0 0 0 = search rules in
+    nothing
+    ∙ list-fine vs c.in-len3-up.len_at_least (version-three (get_or vs 2 (pos 0)) (search rules) c.if-version-ne3.false)
+    (subtype-fine (get_or vs 0 (pos 0)) (search rules) c.if-subtype-lt0.false c.if-subtype-gt2.false)

@@ -1,18 +1,19 @@
 use mathlib.Core.Path.{◌≡◌, ap}
 use native.Mathlib.Omega.{arith}
 use borrow.Author.Rules.{rules}
+use Rattle.answer.proofs.Exits.{exit}
 use Rattle.read_steps.proofs.Flow.{continues-trans, continues_same, continues_end}
 use Rattle.lm_items.specs.Asked.{rank, asked}
 use Rattle.lm_sections.proofs.Sections.{no_more}
 use Rattle.lm_sections.proofs.read_sections.Goals as goal
 
-pub returns-in_default : goal.returns-in_default
-returns-in_default c =
-    rw (c.stopped.ensures, c.in_default.is) (c.loop-section.invariant.3.complete _ _ _ (rw c.in_default.is at c.read_section-passed.ensures))
+pub returns-in_err-following : goal.returns-in_err-following
+returns-in_err-following c =
+    rw (exit _ c.from_residual.ensures.1) (c.loop-section.invariant.3.complete _ _ _ c.in_err-following.ensures)
 
 pub loop-section-preserved : goal.loop-section-preserved
 loop-section-preserved c =
-    let passes = rw c.in-Next.is at c.read_section-passed.ensures in
+    let passes = c.in_ok-following.ensures in
     (search rules, search rules, passes.2, continues-trans c.loop-section.invariant.3 passes.0)
 
 pub returns : goal.returns

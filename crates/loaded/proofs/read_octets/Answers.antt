@@ -22,8 +22,8 @@ overflow_mul-kept c =
     let k = kept in
     omega (arith, k, through_fits a.state.now a.message.now (length a.packed.now / 8))
 
-pub clear_octets-requires : goal.clear_octets-requires
-clear_octets-requires c =
+pub clear-requires : goal.clear-requires
+clear-requires c =
     let kept : let a = c.args in
     c.kept_count-kept.result ≡ length (read_values (through_state a.state.now a.message.now (length a.packed.now / 8))) = let a = c.args in
     c.kept_count-kept.ensures ∙ ap kept_count c.read_either-answer.ensures.0 ∙ count-is (through_state a.state.now a.message.now (length a.packed.now / 8)) in
@@ -41,4 +41,4 @@ returns c =
     let o = through_state a.state.now a.message.now n in
     let k = kept in
     let k8 : c.kept_count-kept.result * 8 ≡ 8 * length (read_values o) = omega (arith, k) in
-    (c.read_either-answer.ensures.0, c.clear_octets.ensures ∙ rw k8 (settled-packed o a.packed.now _ (omega (arith, through_fits a.state.now a.message.now n)) c.read_either-answer.auto.packed c.read_either-answer.ensures.2))
+    (c.read_either-answer.ensures.0, c.clear.ensures ∙ rw k8 (settled-packed o a.packed.now _ (omega (arith, through_fits a.state.now a.message.now n)) c.read_either-answer.auto.packed c.read_either-answer.ensures.2))

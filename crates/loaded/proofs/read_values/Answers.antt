@@ -10,8 +10,8 @@ use Rattle.loading.specs.State.{through_state}
 use Rattle.loaded.proofs.Through.{through_fits}
 use Rattle.loaded.proofs.read_values.Goals as goal
 
-pub clear_values-requires : goal.clear_values-requires
-clear_values-requires c =
+pub clear-requires : goal.clear-requires
+clear-requires c =
     let a = c.args in
     let n = length a.values.now in
     let o = through_state a.state.now a.message.now n in
@@ -24,4 +24,4 @@ returns c =
     let n = length a.values.now in
     let o = through_state a.state.now a.message.now n in
     let k : c.kept_count-kept.result ≡ length (read_values o) = c.kept_count-kept.ensures ∙ ap kept_count c.read_either-answer.ensures.0 ∙ count-is o in
-    (c.read_either-answer.ensures.0, c.clear_values.ensures ∙ rw k (settled-values o a.values.now _ (through_fits a.state.now a.message.now n) c.read_either-answer.auto.values c.read_either-answer.ensures.1))
+    (c.read_either-answer.ensures.0, c.clear.ensures ∙ rw k (settled-values o a.values.now _ (through_fits a.state.now a.message.now n) c.read_either-answer.auto.values c.read_either-answer.ensures.1))

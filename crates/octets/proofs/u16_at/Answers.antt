@@ -1,4 +1,4 @@
--- `octets::u16_at` meets its contract. The two octets are what `wide` gives of them.
+-- `octets::u16_at` meets its contract. The library reads two octets so.
 use borrow.Author.Rules.{rules}
 use Rattle.octets.specs.Numbers.{u16}
 use Rattle.octets.proofs.u16_at.Goals as goal

@@ -3,8 +3,9 @@
 use Prim.Native.Nat.{ℕ}
 use mathlib.Core.Path.{◌≡◌, refl, sym, ap, ◌∙◌}
 use mathlib.Core.List.{List}
+use Rattle.std.proofs.Common.{Ok}
+use Rattle.answer.proofs.Exits.{exit}
 use Rattle.answer.specs.declared.Counts.{Counts}
-use Rattle.answer.specs.declared.Answer.TheVariants.{Accepted}
 use Rattle.items.specs.Reading.{decode}
 use Rattle.read_steps.proofs.Roots.{root-refused, root-read}
 use Rattle.lm.specs.ByName.{read_lm_outcome}
@@ -16,38 +17,38 @@ use Rattle.lm_items.proofs.Same.{same_items}
 use Rattle.plain.proofs.lm_message.Goals as goal
 
 -- the outcome of what passed the tests, without a table
-outcome-is : (m : List ℕ) (room : ℕ) {counts : Counts} → lm_tested m ≡ Accepted counts → read_lm_outcome m room ≡ decode (asked Network) m room
+outcome-is : (m : List ℕ) (room : ℕ) {counts : Counts} → lm_tested m ≡ Ok counts → read_lm_outcome m room ≡ decode (asked Network) m room
 outcome-is m room e = (fine m room _ e).outcome ∙ ap (λ p. decode p m room) same_items.same
 
-pub returns-in_default : goal.returns-in_default
-returns-in_default c =
+pub returns-in_err-lm_tested : goal.returns-in_err-lm_tested
+returns-in_err-lm_tested c =
     let a = c.args in
-    rw (unfit a.message.now a.room _ (sym c.lm_tested-tested.ensures ∙ c.in_default.is)) (c.in_default.is, tt, tt)
+    rw (unfit a.message.now a.room _ (sym c.lm_tested.ensures ∙ c.in_err-lm_tested.was)) (exit _ c.from_residual.ensures.1, tt, tt)
 
-pub read_sections-step-requires : goal.read_sections-step-requires
-read_sections-step-requires c =
+pub read_sections-requires : goal.read_sections-requires
+read_sections-requires c =
     let a = c.args in
-    ((fine a.message.now a.room _ (sym c.lm_tested-tested.ensures ∙ c.in-Accepted.is)).most, refl)
+    ((fine a.message.now a.room _ (sym c.lm_tested.ensures ∙ c.in_ok-lm_tested.was)).most, refl)
 
-pub returns-in_default-step : goal.returns-in_default-step
-returns-in_default-step c =
+pub returns-in_err-end : goal.returns-in_err-end
+returns-in_err-end c =
     let a = c.args in
     let m = a.message.now in
-    let tested = sym c.lm_tested-tested.ensures ∙ c.in-Accepted.is in
-    rw (c.refused.ensures, c.in_default-step.is, outcome-is m a.room tested)
-    (root-refused (asked Network) m a.room a.values.now _ a.packed.now _ c.read_sections-step.result (fine m a.room _ tested).some c.read_sections-step.ensures _ c.in_default-step.is)
+    let tested = sym c.lm_tested.ensures ∙ c.in_ok-lm_tested.was in
+    rw (exit _ c.from_residual-in_err-end.ensures.1, outcome-is m a.room tested)
+    (root-refused (asked Network) m a.room a.values.now _ a.packed.now _ _ (fine m a.room _ tested).some c.in_err-end.ensures _ refl)
 
 pub close-requires : goal.close-requires
 close-requires c =
     let a = c.args in
     let m = a.message.now in
-    let passed = fine m a.room _ (sym c.lm_tested-tested.ensures ∙ c.in-Accepted.is) in
-    (passed.most, (root-read (asked Network) m a.room a.values.now _ a.packed.now _ c.read_sections-step.result passed.some c.read_sections-step.ensures _ c.in-Past.is).0)
+    let passed = fine m a.room _ (sym c.lm_tested.ensures ∙ c.in_ok-lm_tested.was) in
+    (passed.most, (root-read (asked Network) m a.room a.values.now _ a.packed.now _ _ passed.some c.in_ok-end.ensures _ refl).0)
 
 pub returns : goal.returns
 returns c =
     let a = c.args in
     let m = a.message.now in
-    let tested = sym c.lm_tested-tested.ensures ∙ c.in-Accepted.is in
+    let tested = sym c.lm_tested.ensures ∙ c.in_ok-lm_tested.was in
     rw (c.close.ensures, outcome-is m a.room tested)
-    (root-read (asked Network) m a.room a.values.now _ a.packed.now _ c.read_sections-step.result (fine m a.room _ tested).some c.read_sections-step.ensures _ c.in-Past.is).1
+    (root-read (asked Network) m a.room a.values.now _ a.packed.now _ _ (fine m a.room _ tested).some c.in_ok-end.ensures _ refl).1

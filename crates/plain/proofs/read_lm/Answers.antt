@@ -9,8 +9,8 @@ use Rattle.lm_guard.proofs.Tests.{lm_fits}
 use Rattle.plain.proofs.Kept.{kept-is}
 use Rattle.plain.proofs.read_lm.Goals as goal
 
-pub clear_values-requires : goal.clear_values-requires
-clear_values-requires c =
+pub clear-requires : goal.clear-requires
+clear-requires c =
     let a = c.args in
     let n = length a.values.now in
     omega (
@@ -26,7 +26,7 @@ returns c =
     let n = length a.values.now in
     let o = read_lm_outcome a.message.now n in (
       c.lm_message-answer.ensures.0,
-      c.clear_values.ensures
+      c.clear.ensures
           ∙ rw (kept-is a.message.now n _ _ c.kept_count-kept.ensures c.lm_message-answer.ensures.0)
           (settled-values o a.values.now _ (lm_fits a.message.now n) c.lm_message-answer.auto.values c.lm_message-answer.ensures.1),
     )

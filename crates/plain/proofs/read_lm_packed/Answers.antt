@@ -17,8 +17,8 @@ overflow_mul-kept c =
     let n = length a.values.now / 8 in
     omega (arith, kept-is a.message.now n _ _ c.kept_count-kept.ensures c.lm_message-answer.ensures.0, lm_fits a.message.now n)
 
-pub clear_octets-requires : goal.clear_octets-requires
-clear_octets-requires c =
+pub clear-requires : goal.clear-requires
+clear-requires c =
     let a = c.args in
     let n = length a.values.now / 8 in
     omega (
@@ -35,7 +35,7 @@ returns c =
     let o = read_lm_outcome a.message.now n in
     let fits : 8 * length (read_values o) ≤ length a.values.now = omega (arith, lm_fits a.message.now n) in (
       c.lm_message-answer.ensures.0,
-      c.clear_octets.ensures
+      c.clear.ensures
           ∙ rw (kept-is a.message.now n _ _ c.kept_count-kept.ensures c.lm_message-answer.ensures.0)
           (settled-packed o a.values.now _ fits c.lm_message-answer.auto.packed c.lm_message-answer.ensures.2),
     )

@@ -1,7 +1,7 @@
 -- `read_begin::begin_record` meets its contract. Invariant: reading the record comes to reading the presence bits that are
 -- left, with the marks so far.
 -- Assumes nothing.
-use Prim.Native.Nat.{◌-◌, ◌^◌, ◌≤◌, ◌<◌}
+use Prim.Native.Nat.{◌^◌, ◌<◌}
 use mathlib.Core.Path.{◌≡◌}
 use lib.ListN.{length}
 use Rattle.guard.specs.Readable.{asks_at, asks_from}
@@ -10,8 +10,5 @@ use Rattle.read_steps.specs.Reads.{state_at, Continues}
 use Rattle.read_begin.proofs.begin_record.Given as goal
 
 abbrev pub invariant-loop-field : goal.invariant-loop-field
-invariant-loop-field l = (l.field ≤ l.fields) × (length l.values ≡ length l.initial.values) × (length l.packed ≡ length l.initial.packed) × (l.mask < 2 ^ l.field)
+invariant-loop-field l = (length l.values ≡ length l.initial.values) × (length l.packed ≡ length l.initial.packed) × (l.mask < 2 ^ l.field)
     × Continues l.message l.room (asks_at l.table l.at) (state_at l.initial.here l.initial.values l.initial.packed) (left_after (asks_from l.table l.at) l.table l.at l.field l.mask) (state_at l.here l.values l.packed)
-
-abbrev pub decreases-loop-field : goal.decreases-loop-field
-decreases-loop-field l = l.fields - l.field

@@ -9,6 +9,7 @@ use Rattle.encoding.proofs.Guarded.{fits_below}
 use Rattle.guard.proofs.Readable.{Reached, reached-table, reached-led, branch_never}
 use Rattle.read_steps.proofs.Flow.{continues-trans, continues_same}
 use Rattle.read_begin.proofs.Beginnings.{never_reads}
+use Rattle.answer.proofs.Exits.{exit}
 use Rattle.read_begin.proofs.follow.Goals as goal
 use Rattle.read_begin.proofs.follow.Goals.{Joined-else-table-gt-MOST_TABLE, else-table-gt-MOST_TABLE-via-then-table-gt-MOST_TABLE+else-not-leads, else-table-gt-MOST_TABLE-via-else-table-gt-MOST_TABLE}
 
@@ -18,13 +19,12 @@ loop-values-init c = (c.requires.0, omega arith, (λ n. refl), refl, refl, conti
 pub kind_at-requires : goal.kind_at-requires
 kind_at-requires c = c.loop-values.invariant.0.row.start
 
-pub choose-chosen-requires : goal.choose-chosen-requires
-choose-chosen-requires c = (c.loop-values.invariant.0, sym c.kind_at.ensures.0 ∙ c.loop-values-test.true, c.requires.1)
+pub choose-requires : goal.choose-requires
+choose-requires c = (c.loop-values.invariant.0, sym c.kind_at.ensures.0 ∙ c.loop-values-test.true, c.requires.1)
 
-pub returns-in_default : goal.returns-in_default
-returns-in_default c =
-    let told = c.in_default.is in
-    rw told (c.loop-values.invariant.5.complete _ _ _ (rw told at c.choose-chosen.ensures))
+pub returns-in_err-branch : goal.returns-in_err-branch
+returns-in_err-branch c =
+    rw (exit _ c.from_residual.ensures.1) (c.loop-values.invariant.5.complete _ _ _ c.in_err-branch.ensures)
 
 pub leads-requires : goal.leads-requires
 leads-requires c =
@@ -34,16 +34,16 @@ leads-requires c =
 pub returns-then-not-leads : goal.returns-then-not-leads
 returns-then-not-leads c =
     let t = c.args.table.now in
-    let chosen = rw c.in-Row.is at c.choose-chosen.ensures in
-    let apart : leads t c.loop-values.row c.in-Row.branch ≡ false = sym c.leads.ensures ∙ c.if-not-leads.true in
+    let chosen = c.in_ok-branch.ensures in
+    let apart : leads t c.loop-values.row c.in_ok-branch.branch ≡ false = sym c.leads.ensures ∙ c.if-not-leads.true in
     rw c.unreadable.ensures
     ((continues-trans c.loop-values.invariant.5 (continues-trans chosen.2 (continues_same (branch_never t c.loop-values.row _ c.if-table-gt-MOST_TABLE.true chosen.1 apart)))).complete _ _ _ (never_reads _))
 
 -- a branch that the loop goes on with
-reached : (c : Joined-else-table-gt-MOST_TABLE) → Reached c.args.table.now c.loop-values.row c.in-Row.branch
+reached : (c : Joined-else-table-gt-MOST_TABLE) → Reached c.args.table.now c.loop-values.row c.in_ok-branch.branch
 reached c =
     let row = c.loop-values.invariant.0 in
-    let chosen = rw c.in-Row.is at c.choose-chosen.ensures in
+    let chosen = c.in_ok-branch.ensures in
     elim c.else-table-gt-MOST_TABLE.branch [
       | else-table-gt-MOST_TABLE-via-then-table-gt-MOST_TABLE+else-not-leads w ↦
           reached-led row w.if-table-gt-MOST_TABLE.true chosen.1 (sym w.leads.ensures ∙ w.if-not-leads.false)
@@ -55,7 +55,7 @@ loop-values-smaller c = (reached c).below
 
 pub loop-values-preserved : goal.loop-values-preserved
 loop-values-preserved c =
-    let chosen = rw c.in-Row.is at c.choose-chosen.ensures in
+    let chosen = c.in_ok-branch.ensures in
     let on = reached c in
     let kind = sym c.kind_at.ensures.0 ∙ c.loop-values-test.true in (
       on.readable,

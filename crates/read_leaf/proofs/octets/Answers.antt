@@ -8,7 +8,9 @@ use Rattle.octets.specs.Numbers.{u16}
 use Rattle.row.specs.Kinds.{least_length}
 use Rattle.item.specs.Code.{length_within}
 use Rattle.encoding.proofs.RowItems.{octets_length}
-use Rattle.read_steps.proofs.Keeping.{keeping, first_refused, first-kept}
+use Rattle.read_steps.proofs.Keeping.{keeping-value, count-held, item-refused, first_refused, first-kept}
+use borrow.Author.Rules.{rules}
+use Rattle.answer.proofs.Exits.{exit}
 use Rattle.read_leaf.proofs.octets.Goals as goal
 
 -- the length that is read is the row's
@@ -20,17 +22,26 @@ length-asked t at k l m = rw (l, k, m)
 pub kind_at-kind-requires : goal.kind_at-kind-requires
 kind_at-kind-requires c = omega arith
 
-pub returns-in_default : goal.returns-in_default
+pub returns-in_err-length : goal.returns-in_err-length
 unfolding octets_length
-returns-in_default c =
+returns-in_err-length c =
     let a = c.args in
     let asked = length-asked a.table.now a.at c.kind_at-kind.ensures.0 c.least_length-least.ensures c.count_at-most.ensures.0 in
-    rw c.in_default.is (first_refused (octets_length a.table.now a.at) _ refl (keeping _ asked c.length-item.ensures c.kept-step.ensures) c.in_default.is)
+    rw (exit _ c.from_residual.ensures.1) (item-refused (octets_length a.table.now a.at) _ refl _ asked c.length.ensures c.in_err-length.was)
+
+pub returns-in_err-next : goal.returns-in_err-next
+unfolding octets_length
+returns-in_err-next c =
+    let a = c.args in
+    let asked = length-asked a.table.now a.at c.kind_at-kind.ensures.0 c.least_length-least.ensures c.count_at-most.ensures.0 in
+    let kept = keeping-value _ asked (search rules) c.length.ensures c.in_ok-length.was c.keep.ensures in
+    rw (exit _ c.from_residual-in_err-next.ensures.1) (first_refused (octets_length a.table.now a.at) _ refl kept c.in_err-next.was)
 
 pub returns : goal.returns
 unfolding octets_length
 returns c =
     let a = c.args in
     let asked = length-asked a.table.now a.at c.kind_at-kind.ensures.0 c.least_length-least.ensures c.count_at-most.ensures.0 in
-    let first = first-kept (octets_length a.table.now a.at) _ refl (keeping _ asked c.length-item.ensures c.kept-step.ensures) c.in-Past.is in
-    first.complete _ _ _ (rw c.count_of-count.ensures at c.read_octets.ensures)
+    let kept = keeping-value _ asked (search rules) c.length.ensures c.in_ok-length.was c.keep.ensures in
+    let first = first-kept (octets_length a.table.now a.at) _ refl kept c.in_ok-next.was in
+    first.complete _ _ _ (rw (count-held c.in_ok-length.length (search rules) c.count_of-count.ensures) at c.read_octets.ensures)

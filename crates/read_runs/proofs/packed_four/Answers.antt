@@ -1,5 +1,6 @@
 -- `read_runs::packed_four` meets its contract. Each value is the octet that stands there: read by itself, or cut out of five octets.
 use native.Mathlib.Omega.{arith}
+use borrow.Author.Rules.{rules}
 use Rattle.values.specs.Values.{set_value}
 use Rattle.read_runs.proofs.Copying.{four-read, four-cut}
 use Rattle.read_runs.proofs.packed_four.Goals as goal
@@ -16,4 +17,4 @@ returns c =
     let a = c.args in
     rw (c.store_value-5.ensures, c.store_value-4.ensures, c.store_value-3.ensures, c.store_value-2.ensures)
     (four-cut set_value a.message.now a.from a.into a.at a.packed.now
-    (λ i. omega (arith, c.shared_slice_known-1.given i)) c.window_inside.result c.window_inside.ensures.0 (omega arith) (omega arith))
+    (λ i. search rules) c.window_inside.result c.window_inside.ensures.0 (omega arith) (omega arith))

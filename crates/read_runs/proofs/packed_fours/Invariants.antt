@@ -1,5 +1,5 @@
 -- `read_runs::packed_fours` meets its contract. Invariant: so many fours are kept.
-use Prim.Native.Nat.{◌+◌, ◌-◌, ◌*◌, ◌≤◌}
+use Prim.Native.Nat.{◌+◌, ◌*◌, ◌≤◌}
 use mathlib.Core.Path.{◌≡◌}
 use lib.ListN.{length}
 use Rattle.bits.specs.Bits.{unpack}
@@ -9,6 +9,3 @@ use Rattle.read_runs.proofs.packed_fours.Given as goal
 
 abbrev pub invariant-loop-done : goal.invariant-loop-done
 invariant-loop-done l = (l.done ≤ l.fours) × (length l.packed ≡ length l.initial.packed) × (l.packed ≡ kept set_value (unpack l.message) (8 * l.from + l.into) l.at (4 * l.done) l.initial.packed)
-
-abbrev pub decreases-loop-done : goal.decreases-loop-done
-decreases-loop-done l = l.fours - l.done

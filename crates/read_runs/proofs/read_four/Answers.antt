@@ -1,5 +1,6 @@
 -- `read_runs::read_four` meets its contract. Each value is the octet that stands there: read by itself, or cut out of five octets.
 use native.Mathlib.Omega.{arith}
+use borrow.Author.Rules.{rules}
 use lib.ListN.{set, length-set}
 use Rattle.read_runs.proofs.Copying.{four-read, four-cut}
 use Rattle.read_runs.proofs.read_four.Goals as goal
@@ -14,7 +15,7 @@ pub returns : goal.returns
 returns c =
     let a = c.args in
     four-cut set a.message.now a.from a.into a.at a.values.now
-    (λ i. omega (arith, c.shared_slice_known-1.given i)) c.window_inside.result c.window_inside.ensures.0 (omega arith) (omega arith)
+    (λ i. search rules) c.window_inside.result c.window_inside.ensures.0 (omega arith) (omega arith)
 
 pub bounds-values-at-then-into-eq0 : goal.bounds-values-at-then-into-eq0
 bounds-values-at-then-into-eq0 c = simp length-set (omega arith)

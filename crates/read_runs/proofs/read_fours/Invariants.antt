@@ -1,5 +1,5 @@
 -- `read_runs::read_fours` meets its contract. Invariant: so many fours are kept.
-use Prim.Native.Nat.{◌+◌, ◌-◌, ◌*◌, ◌≤◌}
+use Prim.Native.Nat.{◌+◌, ◌*◌, ◌≤◌}
 use mathlib.Core.Path.{◌≡◌}
 use lib.ListN.{length, set}
 use Rattle.bits.specs.Bits.{unpack}
@@ -8,6 +8,3 @@ use Rattle.read_runs.proofs.read_fours.Given as goal
 
 abbrev pub invariant-loop-done : goal.invariant-loop-done
 invariant-loop-done l = (l.done ≤ l.fours) × (length l.values ≡ length l.initial.values) × (l.values ≡ kept set (unpack l.message) (8 * l.from + l.into) l.at (4 * l.done) l.initial.values)
-
-abbrev pub decreases-loop-done : goal.decreases-loop-done
-decreases-loop-done l = l.fours - l.done

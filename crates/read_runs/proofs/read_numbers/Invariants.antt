@@ -1,6 +1,6 @@
 -- `read_runs::read_numbers` meets its contract. Invariant: a slice that held the first of the run when the loop began holds those up to
 -- now, whatever was lent.
-use Prim.Native.Nat.{◌+◌, ◌-◌, ◌*◌, ◌≤◌}
+use Prim.Native.Nat.{◌+◌, ◌*◌, ◌≤◌}
 use mathlib.Core.Path.{◌≡◌}
 use mathlib.Core.List.{List}
 use lib.IntN.{ℤ}
@@ -12,6 +12,3 @@ use Rattle.read_runs.proofs.read_numbers.Given as goal
 abbrev pub invariant-loop-done : goal.invariant-loop-done
 invariant-loop-done l = let after = kept set (unpack l.message) (8 * l.from + l.into) l.at in
     (l.done ≤ l.count) × (length l.values ≡ length l.initial.values) × ((lent : List ℤ) → l.initial.values ≡ after l.initial.done lent → l.values ≡ after l.done lent)
-
-abbrev pub decreases-loop-done : goal.decreases-loop-done
-decreases-loop-done l = l.fit - l.done

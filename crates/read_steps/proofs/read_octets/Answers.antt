@@ -40,4 +40,4 @@ pub returns : goal.returns
 returns c =
     let a = c.args in
     let left = left_over a.message.now a.room a.count c.fitting-ready.result a.cursor (omega arith) (omega arith) (omega arith) c.read.ensures c.further.ensures in
-    rw c.again.ensures (left.complete _ _ _ c.read_numbers-step.ensures)
+    left.complete _ _ _ c.read_numbers.ensures

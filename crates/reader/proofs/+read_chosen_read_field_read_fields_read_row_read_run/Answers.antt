@@ -1,6 +1,6 @@
 use Prim.Native.Nat.{ℕ, suc, ◌+◌, ◌-◌, ◌*◌, ◌<◌}
 use mathlib.Core.Bool.{Bool, false}
-use mathlib.Core.Path.{◌≡◌, sym, ap, ◌∙◌}
+use mathlib.Core.Path.{◌≡◌, refl, sym, ap, ◌∙◌}
 use mathlib.Core.List.{List}
 use native.Mathlib.Omega.{arith}
 use borrow.Author.Rules.{rules}
@@ -19,6 +19,7 @@ use Rattle.parts.specs.Parts.{field_if}
 use Rattle.parts.proofs.Records.{fields_from, fields-start, fields_end, fields_next}
 use Rattle.read_steps.proofs.Flow.{continues-trans, continues_same, continues_end, continues_part, refused_part, reads_nothing}
 use Rattle.read_begin.proofs.Beginnings.{never_reads}
+use Rattle.answer.proofs.Exits.{exit}
 use Rattle.reader.proofs.+read_chosen_read_field_read_fields_read_row_read_run.Goals as goal
 
 -- ── one field ──
@@ -72,7 +73,7 @@ read_fields-count_at-fields-requires t c = omega (arith, (record_fits c.requires
 pub read_fields-loop-field-init : goal.read_fields-loop-field-init
 read_fields-loop-field-init t c =
     let a = c.args in
-    (omega arith, search rules, search rules, continues_same (fields-start (asks_from a.table.now a.at) a.table.now a.at a.mask))
+    (search rules, search rules, continues_same (fields-start (asks_from a.table.now a.at) a.table.now a.at a.mask))
 
 pub read_fields-field_at-row-requires : goal.read_fields-field_at-row-requires
 read_fields-field_at-row-requires t c = omega (arith, (record_fits c.requires.0.readable.row c.requires.1).inside)
@@ -81,37 +82,38 @@ pub read_fields-is_marked-present-requires : goal.read_fields-is_marked-present-
 read_fields-is_marked-present-requires t c =
     (omega arith, omega (arith, (record_fits c.requires.0.readable.row c.requires.1).most), rw c.count_at-fields.ensures.0 c.requires.2)
 
-pub read_fields-read_field-step-requires : goal.read_fields-read_field-step-requires
-read_fields-read_field-step-requires t c =
+pub read_fields-read_field-requires : goal.read_fields-read_field-requires
+read_fields-read_field-requires t c =
     let on = reached c.requires.0 c.requires.1 c.loop-field.field _ (omega arith) c.field_at-row.ensures.0 in
     (omega arith, (on.readable, on.below, c.requires.3))
 
-pub read_fields-returns-in_default : goal.read_fields-returns-in_default
-read_fields-returns-in_default t c =
+pub read_fields-returns-in_err-here : goal.read_fields-returns-in_err-here
+read_fields-returns-in_err-here t c =
     let first = next_field c.requires.0 c.requires.1 c.loop-field.field _ (omega arith) c.field_at-row.ensures.0 c.args.mask _ _ c.count_at-fields.ensures.0 c.is_marked-present.ensures in
-    rw c.again.ensures
-    ((continues-trans c.loop-field.invariant.3 (continues_same first)).complete _ _ _
-    (refused_part _ _ c.read_field-step.ensures c.in_default.is))
+    rw (exit _ c.from_residual.ensures.1)
+    ((continues-trans c.loop-field.invariant.2 (continues_same first)).complete _ _ _ (refused_part _ _ c.in_err-here.ensures refl))
 
 pub read_fields-loop-field-preserved : goal.read_fields-loop-field-preserved
 read_fields-loop-field-preserved t c =
     let first = next_field c.requires.0 c.requires.1 c.loop-field.field _ (omega arith) c.field_at-row.ensures.0 c.args.mask _ _ c.count_at-fields.ensures.0 c.is_marked-present.ensures in (
-      omega arith,
       search rules,
       search rules,
-      continues-trans c.loop-field.invariant.3 (continues-trans (continues_same first) (continues_part _ _ c.read_field-step.ensures c.in-Past.is)),
+      continues-trans c.loop-field.invariant.2 (continues-trans (continues_same first) (continues_part _ _ c.in_ok-here.ensures refl)),
     )
 
 pub read_fields-returns : goal.read_fields-returns
 read_fields-returns t c =
     let a = c.args in
     let last = fields_end (asks_from a.table.now a.at) a.table.now a.at a.mask c.loop-field.field (omega arith) in
-    continues_end (continues-trans c.loop-field.invariant.3 (continues_same last))
+    continues_end (continues-trans c.loop-field.invariant.2 (continues_same last))
 
 -- ── a row ──
 
-pub read_row-returns-in-Row : goal.read_row-returns-in-Row
-read_row-returns-in-Row t c = c.in-Row.ensures.4.complete _ _ _ c.read_chosen.ensures
+pub read_row-returns-in_err-row : goal.read_row-returns-in_err-row
+read_row-returns-in_err-row t c = rw (exit _ c.from_residual.ensures.1) c.in_err-row.ensures
+
+pub read_row-returns : goal.read_row-returns
+read_row-returns t c = c.in_ok-row.ensures.4.complete _ _ _ c.read_chosen.ensures
 
 -- ── a row that is no choice ──
 
@@ -121,17 +123,20 @@ read_chosen-returns-then-not-opens t c =
     let apart = sym c.opens.ensures ∙ c.if-not-opens.true in
     rw (asks_never a.table.now a.at (c.requires.2.state c.if-not-tested.true) apart, c.unreadable.ensures) (never_reads _)
 
-pub read_chosen-returns-in-Done : goal.read_chosen-returns-in-Done
-read_chosen-returns-in-Done t c = continues_end c.in-Done.ensures
+pub read_chosen-returns-in_err-left : goal.read_chosen-returns-in_err-left
+read_chosen-returns-in_err-left t c = rw (exit _ c.from_residual.ensures.1) c.in_err-left.ensures
+
+pub read_chosen-returns-in-Nothing : goal.read_chosen-returns-in-Nothing
+read_chosen-returns-in-Nothing t c = let left = rw c.in-Nothing.is at c.in_ok-left.ensures in continues_end left
 
 pub read_chosen-returns-in-Run : goal.read_chosen-returns-in-Run
-read_chosen-returns-in-Run t c = c.in-Run.ensures.2.complete _ _ _ c.read_run.ensures
+read_chosen-returns-in-Run t c = let left = rw c.in-Run.is at c.in_ok-left.ensures in left.2.complete _ _ _ c.read_run.ensures
 
 pub read_chosen-returns-in-Numbers : goal.read_chosen-returns-in-Numbers
-read_chosen-returns-in-Numbers t c = c.in-Numbers.ensures.1.complete _ _ _ c.numbers.ensures
+read_chosen-returns-in-Numbers t c = let left = rw c.in-Numbers.is at c.in_ok-left.ensures in left.1.complete _ _ _ c.numbers.ensures
 
 pub read_chosen-returns-in-Fields : goal.read_chosen-returns-in-Fields
-read_chosen-returns-in-Fields t c = c.in-Fields.ensures.2.complete _ _ _ c.read_fields.ensures
+read_chosen-returns-in-Fields t c = let left = rw c.in-Fields.is at c.in_ok-left.ensures in left.2.complete _ _ _ c.read_fields.ensures
 
 -- ── a run ──
 
@@ -139,24 +144,27 @@ read_chosen-returns-in-Fields t c = c.in-Fields.ensures.2.complete _ _ _ c.read_
 next_row : (count done : ℕ) (p : Items) → done < count → times (count - done) p ≡ p then times (count - (done + 1)) p
 next_row count done p h = let more : count - done ≡ suc (count - (done + 1)) = omega arith in times_more (count - done) (count - (done + 1)) p more
 
-pub read_run-returns-in_default : goal.read_run-returns-in_default
-read_run-returns-in_default t c =
-    let a = c.args in
-    let first = next_row a.count c.loop-done.done (asks_at a.table.now a.row) c.loop-done-test.true in
-    (continues-trans c.loop-done.invariant.3 (continues_same first)).complete _ _ _ (refused_part _ _ c.read_row-step.ensures c.in_default.is)
+pub read_run-loop-init : goal.read_run-loop-init
+read_run-loop-init t c = let all : c.args.count ≡ c.args.count - 0 = omega arith in (search rules, search rules, continues_same (ap (λ (n : ℕ). times n (asks_at c.args.table.now c.args.row)) all))
 
-pub read_run-loop-done-preserved : goal.read_run-loop-done-preserved
-read_run-loop-done-preserved t c =
+pub read_run-returns-in_err-here : goal.read_run-returns-in_err-here
+read_run-returns-in_err-here t c =
     let a = c.args in
-    let first = next_row a.count c.loop-done.done (asks_at a.table.now a.row) c.loop-done-test.true in (
-      omega arith,
+    let first = next_row a.count c.loop.counter (asks_at a.table.now a.row) c.loop-test.true in
+    rw (exit _ c.from_residual.ensures.1)
+    ((continues-trans c.loop.invariant.2 (continues_same first)).complete _ _ _ (refused_part _ _ c.in_err-here.ensures refl))
+
+pub read_run-loop-preserved : goal.read_run-loop-preserved
+read_run-loop-preserved t c =
+    let a = c.args in
+    let first = next_row a.count c.loop.counter (asks_at a.table.now a.row) c.loop-test.true in (
       search rules,
       search rules,
-      continues-trans c.loop-done.invariant.3 (continues-trans (continues_same first) (continues_part _ _ c.read_row-step.ensures c.in-Past.is)),
+      continues-trans c.loop.invariant.2 (continues-trans (continues_same first) (continues_part _ _ c.in_ok-here.ensures refl)),
     )
 
 pub read_run-returns : goal.read_run-returns
 read_run-returns t c =
     let a = c.args in
-    let none = times_none (a.count - c.loop-done.done) (asks_at a.table.now a.row) (omega arith) in
-    continues_end (continues-trans c.loop-done.invariant.3 (continues_same none))
+    let none = times_none (a.count - c.loop.counter) (asks_at a.table.now a.row) (omega arith) in
+    continues_end (continues-trans c.loop.invariant.2 (continues_same none))

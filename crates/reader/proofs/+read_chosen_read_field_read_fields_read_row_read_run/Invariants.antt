@@ -2,7 +2,7 @@
 -- earlier rows, meet their contracts. The measure is eight times the row's offset, and a little more by the function. The loops'
 -- invariant: reading the whole comes to reading what is left.
 -- Assumes nothing.
-use Prim.Native.Nat.{◌+◌, ◌-◌, ◌*◌, ◌≤◌}
+use Prim.Native.Nat.{◌+◌, ◌-◌, ◌*◌}
 use mathlib.Core.Path.{◌≡◌}
 use lib.ListN.{length}
 use Rattle.items.specs.Items.{times}
@@ -29,18 +29,12 @@ decreases-read_run l = l.at * 8 + 1
 
 abbrev pub invariant-read_fields-loop-field : goal.invariant-read_fields-loop-field
 invariant-read_fields-loop-field l =
-    (l.field ≤ l.fields) × (length l.values ≡ length l.initial.values) × (length l.packed ≡ length l.initial.packed)
+    (length l.values ≡ length l.initial.values) × (length l.packed ≡ length l.initial.packed)
     × Continues l.message l.room (marked_fields (asks_from l.table l.at) l.table l.at l.mask) (state_at l.initial.here l.initial.values l.initial.packed)
     (fields_from (asks_from l.table l.at) l.table l.at l.mask l.field) (state_at l.here l.values l.packed)
 
-abbrev pub decreases-read_fields-loop-field : goal.decreases-read_fields-loop-field
-decreases-read_fields-loop-field l = l.fields - l.field
-
-abbrev pub invariant-read_run-loop-done : goal.invariant-read_run-loop-done
-invariant-read_run-loop-done l =
-    (l.done ≤ l.count) × (length l.values ≡ length l.initial.values) × (length l.packed ≡ length l.initial.packed)
+abbrev pub invariant-read_run-loop : goal.invariant-read_run-loop
+invariant-read_run-loop l =
+    (length l.values ≡ length l.initial.values) × (length l.packed ≡ length l.initial.packed)
     × Continues l.message l.room (times l.count (asks_at l.table l.row)) (state_at l.initial.here l.initial.values l.initial.packed)
-    (times (l.count - l.done) (asks_at l.table l.row)) (state_at l.here l.values l.packed)
-
-abbrev pub decreases-read_run-loop-done : goal.decreases-read_run-loop-done
-decreases-read_run-loop-done l = l.count - l.done
+    (times (l.count - l.counter) (asks_at l.table l.row)) (state_at l.here l.values l.packed)

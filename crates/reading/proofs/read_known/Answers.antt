@@ -12,8 +12,8 @@ use Rattle.reading.proofs.Passed.{passed-outcome}
 use Rattle.read_steps.proofs.Settled.{count-is, settled-values}
 use Rattle.reading.proofs.read_known.Goals as goal
 
-pub clear_values-requires : goal.clear_values-requires
-clear_values-requires c =
+pub clear-requires : goal.clear-requires
+clear-requires c =
     let a = c.args in
     let n = length a.values.now in
     let o = message_outcome a.table.now a.message.now n in
@@ -27,4 +27,4 @@ returns c =
     let o = message_outcome a.table.now a.message.now n in
     let k : c.kept_count-kept.result ≡ length (read_values o) = c.kept_count-kept.ensures ∙ ap kept_count c.read_passed-answer.ensures.0 ∙ count-is o in
     rw (passed-outcome a.table.now a.message.now n c.requires.0)
-    (c.read_passed-answer.ensures.0, c.clear_values.ensures ∙ rw k (settled-values o a.values.now _ (message_fits (asks a.table.now) a.message.now n) c.read_passed-answer.auto.values c.read_passed-answer.ensures.1))
+    (c.read_passed-answer.ensures.0, c.clear.ensures ∙ rw k (settled-values o a.values.now _ (message_fits (asks a.table.now) a.message.now n) c.read_passed-answer.auto.values c.read_passed-answer.ensures.1))

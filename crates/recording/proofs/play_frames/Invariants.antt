@@ -5,8 +5,8 @@ use lib.ListN.{length}
 use Rattle.recording.specs.Frames.{PlayingUp}
 use Rattle.recording.proofs.play_frames.Given as goal
 
-abbrev pub invariant-loop-taken : goal.invariant-loop-taken
-invariant-loop-taken l = (length l.text ≡ length l.fn.text) × PlayingUp l.fn.start l.octets l.seen l.taken l.text l.end
+abbrev pub invariant-loop-size : goal.invariant-loop-size
+invariant-loop-size l = (length l.text ≡ length l.fn.text) × PlayingUp l.fn.start l.octets l.seen l.taken l.text l.end
 
-abbrev pub decreases-loop-taken : goal.decreases-loop-taken
-decreases-loop-taken l = length l.octets - l.taken
+abbrev pub decreases-loop-size : goal.decreases-loop-size
+decreases-loop-size l = length l.octets - l.taken

@@ -6,5 +6,5 @@ use Rattle.stream.proofs.answer_frames.Goals as goal
 
 pub returns : goal.returns
 returns c =
-    let p = rw c.none-before.ensures at c.answer.ensures in
+    let p = rw c.none.ensures at c.answer.ensures in
     record { answered = answered-too programs-apart.bench bench-steady p.answered; upper_bound = p.upper_bound }

@@ -1,4 +1,4 @@
--- `stream::run` meets its contract, and ends by its count of turns. The invariant: the buffers keep their lengths, what is held stays
+-- `stream::run` meets its contract. The invariant: the buffers keep their lengths, what is held stays
 -- within them, and it is what the turns so far led to.
 use mathlib.Core.Path.{◌≡◌}
 use lib.ListN.{length}
@@ -6,8 +6,5 @@ use Rattle.buffers.specs.Held.{Held}
 use Rattle.stream.proofs.Running.{Running}
 use Rattle.stream.proofs.run.Given as goal
 
-abbrev pub invariant-loop-turns : goal.invariant-loop-turns
-invariant-loop-turns l = Held l.s × (length l.input ≡ 65536) × (length l.output ≡ 65536) × (length l.values ≡ 1024) × Running l.initial.progress l.input l.output l.s l.progress l.turns
-
-abbrev pub decreases-loop-turns : goal.decreases-loop-turns
-decreases-loop-turns l = l.turns
+abbrev pub invariant-loop : goal.invariant-loop
+invariant-loop l = Held l.s × (length l.input ≡ 65536) × (length l.output ≡ 65536) × (length l.values ≡ 1024) × Running l.fn.start l.input l.output l.s l.progress l.counter

@@ -16,7 +16,7 @@ returns c =
     let unit = unit_at_hand s input size c.requires.held.1 in
     let put = rw unit at c.put_unit-lines.ensures in
     let lines = c.put_unit-lines.result in
-    let state : c.after-after.result ≡ held_behind s (length (take size (at_hand s input))) lines = rw (length-unit s input size held c.requires.input_len.0 c.requires.held.1) c.after-after.ensures in (
-      rw c.after-after.ensures (record { ordered = c.requires.held.1; within = held.within; room = omega (arith, put.upper_bound, c.requires.held.3) }),
-      record { lines = lines; state = ap Next state; line = put.appended; next = rw unit at c.next-next.ensures },
+    let state : c.after.result ≡ held_behind s (length (take size (at_hand s input))) lines = rw (length-unit s input size held c.requires.input_len.0 c.requires.held.1) c.after.ensures in (
+      rw c.after.ensures (record { ordered = c.requires.held.1; within = held.within; room = omega (arith, put.upper_bound, c.requires.held.3) }),
+      record { lines = lines; state = ap Next state; line = put.appended; next = rw unit at c.next.ensures },
     )

@@ -6,8 +6,7 @@ use lib.IntN.{ℤ}
 use Rattle.encoding.specs.Rows.{items}
 use Rattle.guard.specs.Readable.{asks_at}
 use Rattle.guard.proofs.Readable.{asks-table, readable-table, tested-table}
-use Rattle.read_steps.specs.declared.Step.{Step}
-use Rattle.read_steps.specs.Reads.{State, Reads}
+use Rattle.read_steps.specs.Reads.{Step, State, Reads}
 use Rattle.builtin.specs.Tables.{lm}
 use Rattle.builtin.proofs.Tables.{lm-obeys}
 use Rattle.userdata.proofs.Taken.{network-starts, transport-starts}
@@ -38,10 +37,10 @@ pub returns-in_default-transport : goal.returns-in_default-transport
 unfolding lm
 returns-in_default-transport c =
     let a = c.args in
-    transport-refused a.message.now _ _ _ _ c.read_row-network.result (asked 204 c.read_row-network.ensures) _ c.in-Past.is _ _ c.read_row-transport.result (asked 278 c.read_row-transport.ensures) _ c.in_default-transport.is
+    transport-refused a.message.now _ _ _ _ c.read_row-network.result (asked 204 c.read_row-network.ensures) _ c.in-Ok.is _ _ c.read_row-transport.result (asked 278 c.read_row-transport.ensures) _ c.in_default-transport.is
 
 pub returns : goal.returns
 unfolding lm
 returns c =
     let a = c.args in
-    transport_past a.message.now _ _ _ _ c.read_row-network.result (asked 204 c.read_row-network.ensures) _ c.in-Past.is _ _ c.read_row-transport.result (asked 278 c.read_row-transport.ensures) _ c.in-Past-transport.is
+    transport_past a.message.now _ _ _ _ c.read_row-network.result (asked 204 c.read_row-network.ensures) _ c.in-Ok.is _ _ c.read_row-transport.result (asked 278 c.read_row-transport.ensures) _ c.in-Ok-transport.is

@@ -4,34 +4,34 @@ use Prim.Native.Nat.{◌-◌}
 use mathlib.Core.Path.{◌≡◌, sym, ap, ◌∙◌}
 use native.Mathlib.Omega.{arith}
 use lib.ListN.{length}
-use Rattle.userdata.specs.declared.Found.TheVariants.{At}
-use Rattle.userdata.specs.Headers.{answer_found}
+use Rattle.std.proofs.Common.{Ok}
+use Rattle.answer.proofs.Exits.{exit}
 use Rattle.userdata.proofs.Outcome.{accepted-placed, refused-placed}
 use Rattle.userdata.proofs.user_data_place.Goals as goal
 
-pub returns-in_default : goal.returns-in_default
-returns-in_default c =
-    c.refused.ensures ∙ ap answer_found c.in_default.is ∙ refused-placed c.args.message.now _ (sym c.lm_message-answer.ensures.0 ∙ c.in_default.is)
+pub returns-in_err-counts : goal.returns-in_err-counts
+returns-in_err-counts c =
+    exit _ c.from_residual.ensures.1 ∙ refused-placed c.args.message.now _ (sym c.lm_message.ensures.0 ∙ c.in_err-counts.was)
 
 -- past a refusal: where the user data stands, by the counts
 
 pub header_values-requires : goal.header_values-requires
-header_values-requires c = (accepted-placed _ _ (sym c.lm_message-answer.ensures.0 ∙ c.in-Accepted.is)).most
+header_values-requires c = (accepted-placed _ _ (sym c.lm_message.ensures.0 ∙ c.in_ok-counts.was)).most
 
 pub overflow_sub-length : goal.overflow_sub-length
-overflow_sub-length c = omega (arith, (accepted-placed _ _ (sym c.lm_message-answer.ensures.0 ∙ c.in-Accepted.is)).count)
+overflow_sub-length c = omega (arith, (accepted-placed _ _ (sym c.lm_message.ensures.0 ∙ c.in_ok-counts.was)).count)
 
 pub overflow_sub-length-2 : goal.overflow_sub-length-2
-overflow_sub-length-2 c = omega (arith, (accepted-placed _ _ (sym c.lm_message-answer.ensures.0 ∙ c.in-Accepted.is)).count)
+overflow_sub-length-2 c = omega (arith, (accepted-placed _ _ (sym c.lm_message.ensures.0 ∙ c.in_ok-counts.was)).count)
 
 pub overflow_sub-start : goal.overflow_sub-start
 overflow_sub-start c =
-    let p = accepted-placed _ _ (sym c.lm_message-answer.ensures.0 ∙ c.in-Accepted.is) in
+    let p = accepted-placed _ _ (sym c.lm_message.ensures.0 ∙ c.in_ok-counts.was) in
     omega (arith, p.count, p.within)
 
 pub returns : goal.returns
 returns c =
     let s = c.args.message.now in
-    let p = accepted-placed s c.in-Accepted.counts (sym c.lm_message-answer.ensures.0 ∙ c.in-Accepted.is) in
-    let k : c.in-Accepted.counts.values - c.header_values.result - 1 ≡ p.size = omega (arith, p.count) in
-    ap (λ k. At (record { start = record { 0 = length s - k }; length = record { 0 = k } })) k ∙ sym p.found
+    let p = accepted-placed s _ (sym c.lm_message.ensures.0 ∙ c.in_ok-counts.was) in
+    let k : c.in_ok-counts.counts.values - c.header_values.result - 1 ≡ p.size = omega (arith, p.count) in
+    ap (λ k. Ok (record { start = record { 0 = length s - k }; length = record { 0 = k } })) k ∙ sym p.found

@@ -7,7 +7,7 @@ use Rattle.window.proofs.replace.Goals as goal
 pub returns : goal.returns
 returns c =
     let a = c.args in
-    rw (c.raised-2.ensures, c.raised.ensures, c.power.ensures.0)
+    rw (c.raised-2.ensures, c.from.ensures, c.raised.ensures, c.power.ensures.0)
     (placed-masked a.window a.below a.k a.v)
 
 pub overflow_add-result : goal.overflow_add-result

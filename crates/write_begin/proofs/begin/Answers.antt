@@ -1,13 +1,19 @@
 -- `write_begin::begin` meets its contract. By the kind of the row.
 -- Assumes nothing.
-use Prim.Native.Nat.{◌+◌}
+use Prim.Native.Nat.{ℕ, ◌+◌}
 use mathlib.Core.Path.{◌≡◌, sym, ◌∙◌}
+use mathlib.Core.List.{List}
 use native.Mathlib.Omega.{arith}
 use Rattle.octets.specs.Numbers.{u16}
+use Rattle.rules.specs.Rules.{Obeys, Starts}
+use Rattle.item.specs.Code.{variable}
+use Rattle.item.proofs.Returned.{returned}
 use Rattle.table.proofs.Obeyed.{earlier-starts, row-starts_inside, variable-row, fixed-row, last_kind}
+use Rattle.items.specs.Items.{one}
+use Rattle.encoding.specs.Rows.{items}
 use Rattle.encoding.proofs.RowItems.{items-variable, items-fixed}
-use Rattle.write_steps.proofs.Flow.{continues_same}
-use Rattle.write_begin.proofs.Beginnings.{begins-writes, begins-number, begins-run}
+use Rattle.write_steps.proofs.Flow.{continues_same, continues-done}
+use Rattle.write_begin.proofs.Beginnings.{begins-number, begins-run}
 use Rattle.write_begin.proofs.begin.Goals as goal
 
 pub kind_at-kind-requires : goal.kind_at-kind-requires
@@ -50,11 +56,17 @@ pub returns-in-1 : goal.returns-in-1
 returns-in-1 c =
     begins-number c.requires.0 c.requires.1 (sym c.kind_at-kind.ensures.0 ∙ c.in-1.is)
 
-pub returns-in-2 : goal.returns-in-2
-returns-in-2 c =
-    let t = c.args.table.now in
-    let k = sym c.kind_at-kind.ensures.0 ∙ c.in-2.is in
-    rw c.whole.ensures (begins-writes t c.args.at c.variable.result (rw (items-variable t c.args.at (variable-row c.requires.0 c.requires.1 k)) c.variable.ensures))
+-- a variable number row asks for one
+variable-items : {t : List ℕ} {at kind : ℕ} → Obeys t → Starts t at → kind ≡ u16 t (at + 2) → kind ≡ 2 → items t at ≡ one variable
+variable-items {t} {at} obeys starts ek e = items-variable t at (variable-row obeys starts (sym ek ∙ e))
+
+pub returns-in_ok-next-in-2 : goal.returns-in_ok-next-in-2
+returns-in_ok-next-in-2 c =
+    rw (variable-items c.requires.0 c.requires.1 c.kind_at-kind.ensures.0 c.in-2.is) (continues-done c.in_ok-next-in-2.ensures)
+
+pub returns-in_err-next-in-2 : goal.returns-in_err-next-in-2
+returns-in_err-next-in-2 c =
+    rw (returned _ c.from_residual.ensures, variable-items c.requires.0 c.requires.1 c.kind_at-kind.ensures.0 c.in-2.is) c.in_err-next-in-2.ensures
 
 pub returns-in-3 : goal.returns-in-3
 returns-in-3 c =
@@ -63,6 +75,5 @@ returns-in-3 c =
     rw (c.run_of.ensures, c.count_at-count.ensures.0, c.run_at-row.ensures.0)
     (begins-run c.requires.0 c.args.at _ _ c.requires.1.1 row.2 (continues_same (items-fixed c.args.table.now c.args.at _ _ row.0 row.2.1)))
 
-pub returns-in_default : goal.returns-in_default
-returns-in_default c =
-    rw c.whole-in_default.ensures (begins-writes c.args.table.now c.args.at c.octets.result c.octets.ensures)
+pub returns-in_ok-next-in_default : goal.returns-in_ok-next-in_default
+returns-in_ok-next-in_default c = continues-done c.in_ok-next-in_default.ensures

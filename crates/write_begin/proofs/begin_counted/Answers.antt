@@ -15,6 +15,7 @@ use Rattle.items.specs.Items.{ask, times}
 use Rattle.encoding.specs.Rows.{items}
 use Rattle.encoding.proofs.RowItems.{items-counted}
 use Rattle.item.proofs.Naturals.{held}
+use Rattle.item.proofs.Returned.{returned}
 use Rattle.write_steps.proofs.Putting.{putting, first_missing, first_refused, first_put}
 use Rattle.write_begin.proofs.Beginnings.{begins-run}
 use Rattle.write_begin.proofs.begin_counted.Goals as goal
@@ -26,10 +27,10 @@ asked {t} {at} obeys starts kind =
     let row = counted-row obeys starts kind in
     items-counted t at (u16 t (at + 4)) (u16 t (at + 6)) row.0 row.2.1
 
-pub returns-in_default : goal.returns-in_default
-returns-in_default c =
+pub returns-in_err-value : goal.returns-in_err-value
+returns-in_err-value c =
     let pre = c.requires in
-    first_missing _ _ (asked pre.0 pre.1 pre.2) c.next_value-given.result c.missing.result c.next_value-given.ensures c.in_default.is c.missing.ensures
+    rw (returned _ c.from_residual.ensures) (first_missing _ _ (asked pre.0 pre.1 pre.2) c.next_value.result c.next_value.ensures c.in_err-value.was)
 
 pub count_at-most-requires : goal.count_at-most-requires
 count_at-most-requires c = omega (arith, (counted-row c.requires.0 c.requires.1 c.requires.2).1)
@@ -37,14 +38,14 @@ count_at-most-requires c = omega (arith, (counted-row c.requires.0 c.requires.1 
 pub run_at-row-requires : goal.run_at-row-requires
 run_at-row-requires c = omega (arith, (counted-row c.requires.0 c.requires.1 c.requires.2).1)
 
-pub returns-in_default-step : goal.returns-in_default-step
-returns-in_default-step c =
+pub returns-in_err-next : goal.returns-in_err-next
+returns-in_err-next c =
     let pre = c.requires in
-    rw (c.whole.ensures, c.in_default-step.is)
+    rw (returned _ c.from_residual-in_err-next.ensures)
     (first_refused _ _ (asked pre.0 pre.1 pre.2)
-    (putting _ c.next_value-given.result c.length-put.result _ _ (ap (length_within 0) c.count_at-most.ensures.0) c.next_value-given.ensures c.in-Value.is
-    (held c.in-Value.value (search rules)) c.length-put.ensures c.moved-step.ensures)
-    c.in_default-step.is)
+    (putting _ c.next_value.result c.length-put.result _ _ (ap (length_within 0) c.count_at-most.ensures.0) c.next_value.ensures c.in_ok-value.was
+    (held c.in_ok-value.value (search rules)) c.length-put.ensures c.moved.ensures)
+    c.in_err-next.was)
 
 pub run_of-requires : goal.run_of-requires
 run_of-requires c =
@@ -54,10 +55,10 @@ run_of-requires c =
 pub returns : goal.returns
 returns c =
     let pre = c.requires in
-    let held-value : to_z w64 (of_z w64 c.in-Value.value) ≡ c.in-Value.value = held c.in-Value.value (search rules) in
+    let held-value : to_z w64 (of_z w64 c.in_ok-value.value) ≡ c.in_ok-value.value = held c.in_ok-value.value (search rules) in
     rw (c.run_of.ensures, rw held-value at c.count_of.ensures, c.run_at-row.ensures.0)
     (begins-run pre.0 c.args.at _ _ pre.1.1 (counted-row pre.0 pre.1 pre.2).2
     (first_put _ _ (asked pre.0 pre.1 pre.2)
-    (putting _ c.next_value-given.result c.length-put.result _ _ (ap (length_within 0) c.count_at-most.ensures.0) c.next_value-given.ensures c.in-Value.is
-    held-value c.length-put.ensures c.moved-step.ensures)
-    c.in-Past.is))
+    (putting _ c.next_value.result c.length-put.result _ _ (ap (length_within 0) c.count_at-most.ensures.0) c.next_value.ensures c.in_ok-value.was
+    held-value c.length-put.ensures c.moved.ensures)
+    c.in_ok-next.was))

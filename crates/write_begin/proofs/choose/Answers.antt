@@ -12,17 +12,19 @@ use Rattle.item.specs.Answers.{branches_at}
 use Rattle.table.proofs.Obeyed.{choice-row}
 use Rattle.encoding.proofs.RowItems.{items-choice}
 use Rattle.item.proofs.Naturals.{held}
+use Rattle.item.proofs.Returned.{returned}
 use Rattle.parts.proofs.Choices.{Chosen, chosen}
 use Rattle.write_steps.specs.Writes.{list_in, state_at}
 use Rattle.write_steps.proofs.Flow.{continues-trans, continues_same}
 use Rattle.write_steps.proofs.Putting.{Putting, putting, put-allowed, first_missing, first_refused, first_put}
 use Rattle.write_begin.proofs.choose.Goals as goal
 
-pub returns-in_default : goal.returns-in_default
-returns-in_default c =
+pub returns-in_err-value : goal.returns-in_err-value
+returns-in_err-value c =
     let pre = c.requires in
-    first_missing _ _ (items-choice c.args.table.now c.args.at _ (choice-row pre.0 pre.1 pre.2).is)
-    c.next_value-given.result c.missing.result c.next_value-given.ensures c.in_default.is c.missing.ensures
+    rw (returned _ c.from_residual.ensures)
+    (first_missing _ _ (items-choice c.args.table.now c.args.at _ (choice-row pre.0 pre.1 pre.2).is)
+    c.next_value.result c.next_value.ensures c.in_err-value.was)
 
 pub count_at-branches-requires : goal.count_at-branches-requires
 count_at-branches-requires c = omega (arith, (choice-row c.requires.0 c.requires.1 c.requires.2).inside)
@@ -37,30 +39,31 @@ pub branch_at-requires : goal.branch_at-requires
 branch_at-requires c =
     let a = c.args in
     let pre = c.requires in
-    let held-value : to_z w64 (of_z w64 c.in-Value.value) ≡ c.in-Value.value = held c.in-Value.value (search rules) in
-    let put : Putting (index (branches_at a.table.now (a.at + 6) (u16 a.table.now (a.at + 4)))) (list_in a.values.now a.packed.now) (state_at a.cursor a.output.now) c.index-put.new.output c.in-Value.value c.moved-step.result =
-    putting _ c.next_value-given.result c.index-put.result _ _ (ap (λ (m : ℕ). index (branches_at a.table.now (a.at + 6) m)) c.count_at-branches.ensures.0) c.next_value-given.ensures c.in-Value.is
-    held-value c.index-put.ensures c.moved-step.ensures in
+    let held-value : to_z w64 (of_z w64 c.in_ok-value.value) ≡ c.in_ok-value.value = held c.in_ok-value.value (search rules) in
+    let put : Putting (index (branches_at a.table.now (a.at + 6) (u16 a.table.now (a.at + 4)))) (list_in a.values.now a.packed.now) (state_at a.cursor a.output.now) c.index-put.new.output c.in_ok-value.value c.moved.result =
+    putting _ c.next_value.result c.index-put.result _ _ (ap (λ (m : ℕ). index (branches_at a.table.now (a.at + 6) m)) c.count_at-branches.ensures.0) c.next_value.ensures c.in_ok-value.was
+    held-value c.index-put.ensures c.moved.ensures in
     let count = rw held-value at c.count_of.ensures in
-    omega (arith, count, (chosen pre.0 pre.1 pre.2 c.in-Value.value (put-allowed put c.in-Past.is)).inside)
+    omega (arith, count, (chosen pre.0 pre.1 pre.2 c.in_ok-value.value (put-allowed put c.in_ok-next.was)).inside)
 
-pub returns-in-Past : goal.returns-in-Past
-returns-in-Past c =
+pub returns : goal.returns
+returns c =
     let a = c.args in
     let pre = c.requires in
-    let held-value : to_z w64 (of_z w64 c.in-Value.value) ≡ c.in-Value.value = held c.in-Value.value (search rules) in
-    let put : Putting (index (branches_at a.table.now (a.at + 6) (u16 a.table.now (a.at + 4)))) (list_in a.values.now a.packed.now) (state_at a.cursor a.output.now) c.index-put.new.output c.in-Value.value c.moved-step.result =
-    putting _ c.next_value-given.result c.index-put.result _ _ (ap (λ (m : ℕ). index (branches_at a.table.now (a.at + 6) m)) c.count_at-branches.ensures.0) c.next_value-given.ensures c.in-Value.is
-    held-value c.index-put.ensures c.moved-step.ensures in
-    let branch : Chosen a.table.now a.at (natural c.in-Value.value) = chosen pre.0 pre.1 pre.2 c.in-Value.value (put-allowed put c.in-Past.is) in
+    let held-value : to_z w64 (of_z w64 c.in_ok-value.value) ≡ c.in_ok-value.value = held c.in_ok-value.value (search rules) in
+    let put : Putting (index (branches_at a.table.now (a.at + 6) (u16 a.table.now (a.at + 4)))) (list_in a.values.now a.packed.now) (state_at a.cursor a.output.now) c.index-put.new.output c.in_ok-value.value c.moved.result =
+    putting _ c.next_value.result c.index-put.result _ _ (ap (λ (m : ℕ). index (branches_at a.table.now (a.at + 6) m)) c.count_at-branches.ensures.0) c.next_value.ensures c.in_ok-value.was
+    held-value c.index-put.ensures c.moved.ensures in
+    let branch : Chosen a.table.now a.at (natural c.in_ok-value.value) = chosen pre.0 pre.1 pre.2 c.in_ok-value.value (put-allowed put c.in_ok-next.was) in
     rw (c.branch_at.ensures.0, rw held-value at c.count_of.ensures)
-    (branch.back, continues-trans (first_put _ _ (items-choice a.table.now a.at _ (choice-row pre.0 pre.1 pre.2).is) put c.in-Past.is) (continues_same branch.same))
+    (branch.back, continues-trans (first_put _ _ (items-choice a.table.now a.at _ (choice-row pre.0 pre.1 pre.2).is) put c.in_ok-next.was) (continues_same branch.same))
 
-pub returns-in-Refused : goal.returns-in-Refused
-returns-in-Refused c =
+pub returns-in_err-next : goal.returns-in_err-next
+returns-in_err-next c =
     let a = c.args in
     let pre = c.requires in
-    first_refused _ _ (items-choice a.table.now a.at _ (choice-row pre.0 pre.1 pre.2).is)
-    (putting _ c.next_value-given.result c.index-put.result _ _ (ap (λ (m : ℕ). index (branches_at a.table.now (a.at + 6) m)) c.count_at-branches.ensures.0) c.next_value-given.ensures c.in-Value.is
-    (held c.in-Value.value (search rules)) c.index-put.ensures c.moved-step.ensures)
-    c.in-Refused.is
+    rw (returned _ c.from_residual-in_err-next.ensures)
+    (first_refused _ _ (items-choice a.table.now a.at _ (choice-row pre.0 pre.1 pre.2).is)
+    (putting _ c.next_value.result c.index-put.result _ _ (ap (λ (m : ℕ). index (branches_at a.table.now (a.at + 6) m)) c.count_at-branches.ensures.0) c.next_value.ensures c.in_ok-value.was
+    (held c.in_ok-value.value (search rules)) c.index-put.ensures c.moved.ensures)
+    c.in_err-next.was)

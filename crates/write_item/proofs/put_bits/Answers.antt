@@ -1,30 +1,25 @@
 -- `write_item::put_bits` meets its contract. It names what `store` answers.
-use mathlib.Core.Path.{◌≡◌, sym, ap, ◌∙◌}
-use Prim.Native.Nat.{ℕ, ◌+◌, ◌*◌}
+use mathlib.Core.Path.{◌≡◌, refl, ap, ◌∙◌}
+use mathlib.Core.Bool.{Bool, true, false, cond}
 use mathlib.Core.List.{List}
+use Prim.Native.Nat.{ℕ, ◌+◌, ◌*◌}
+use lib.Dec.{leb}
 use lib.ListN.{length}
-use borrow.Author.Tests.{le-leb, lt-leb}
+use Rattle.std.proofs.Common.{Option, Some, None, Ok, Err, ok_or}
 use Rattle.bits.specs.Access.{place_at, stored}
 use Rattle.bits.specs.declared.BitPlace.{BitPlace}
-use Rattle.bits.specs.declared.Stored.TheVariants as S
-use Rattle.bits.proofs.Access.{stored-Next, stored-Full}
-use Rattle.answer.specs.Numbers.{no_room}
+use Rattle.answer.specs.declared.Reason.TheVariants.{NoRoom}
 use Rattle.write_item.specs.Steps.{put_of}
-use Rattle.item.specs.declared.Put.TheVariants.{Next, Unfit}
 use Rattle.write_item.proofs.put_bits.Goals as goal
 
-put_next : (m : List ℕ) (p k : ℕ) (q : BitPlace) → stored m p k ≡ S.Next q → Next q ≡ put_of m p k
-put_next m p k q e = let s = stored-Next m p k q e in rw (le-leb (p + k) (8 * length m) s.0) (ap (λ n. Next (place_at n)) s.1)
+named : (m : List ℕ) (p k : ℕ) → ok_or (stored m p k) NoRoom ≡ put_of m p k
+named m p k = go (leb (p + k) (8 * length m))
+  where
+    go : (t : Bool) → ok_or (cond {A = Option BitPlace} t (Some (place_at (p + k))) None) NoRoom ≡ cond t (Ok (place_at (p + k))) (Err NoRoom)
+    go true = refl
+    go false = refl
 
-put_full : (m : List ℕ) (p k : ℕ) → stored m p k ≡ S.Full → Unfit no_room ≡ put_of m p k
-put_full m p k e = rw (lt-leb (p + k) (8 * length m) (stored-Full m p k e))
-
-pub returns-in-Next : goal.returns-in-Next
-returns-in-Next c =
+pub returns : goal.returns
+returns c =
     let a = c.args in
-    (put_next a.output.now a.place.0 a.k c.in-Next.next (sym c.store-s.ensures.0 ∙ c.in-Next.is), c.store-s.ensures.1)
-
-pub returns-in-Full : goal.returns-in-Full
-returns-in-Full c =
-    let a = c.args in
-    (put_full a.output.now a.place.0 a.k (sym c.store-s.ensures.0 ∙ c.in-Full.is), c.store-s.ensures.1)
+    (c.ok_or.ensures.value ∙ ap (λ s. ok_or s NoRoom) c.store.ensures.0 ∙ named a.output.now a.place.0 a.k, c.store.ensures.1)

@@ -11,6 +11,7 @@ use Rattle.values.proofs.Stores.{length-values_in}
 use Rattle.write_runs.specs.Runs.{is_octet, reach, most_of}
 use Rattle.write_runs.proofs.Putting.{puts-front}
 use borrow.Author.Rules.{rules}
+use Rattle.std.proofs.lemmas.Bool.Decides.{nat_tests}
 use Rattle.write_runs.proofs.write.Goals as goal
 
 -- what the run is held to: the most that there can be
@@ -44,8 +45,8 @@ reach-numbers : (l : List ℤ) (packed : List ℕ) → 0 < length l → reach l 
 reach-numbers [] packed h = absurd (omega (arith, h))
 reach-numbers (x ∷ l) packed h = refl
 
-pub returns-then-values-eq0 : goal.returns-then-values-eq0
-returns-then-values-eq0 c =
+pub returns-then-is_empty : goal.returns-then-is_empty
+returns-then-is_empty c =
     let a = c.args in
     let v = a.values.now in
     let ps = values_in a.packed.now in
@@ -56,7 +57,7 @@ returns-then-values-eq0 c =
     let listed = to-list a.count (length a.packed.now / 8) a.index o p c.after-end.result.0 c.between-there.result.0 c.fitting-room.result c.fitting-listed.result c.after-end.ensures c.between-there.ensures c.fitting-room.ensures c.fitting-listed.ensures in
     let less : c.write_packed.result ≤ c.fitting-listed.result = c.write_packed.ensures.0 in
     let puts = rw at at c.write_packed.ensures.2 in
-    let none : length v ≡ 0 = omega (arith, c.if-values-eq0.true) in
+    let none : length v ≡ 0 = grind (arith, nat_tests, c.if-is_empty.ensures) in
     rw (← empty v none ps, reach-octets v a.packed.now none)
     (record { most = le_trans less (le_of_eq most); listed = omega (arith, less, listed, length-values_in a.packed.now); stops = λ h. c.write_packed.ensures.1 (subst (λ (k : ℕ). c.write_packed.result < k) (sym most) h); puts = puts })
 
@@ -84,7 +85,7 @@ returns c =
     let listed = to-list a.count (length v) a.index o p c.after-end.result.0 c.between-there.result.0 c.fitting-room.result c.fitting-listed-2.result c.after-end.ensures c.between-there.ensures c.fitting-room.ensures c.fitting-listed-2.ensures in
     let less : c.write_numbers.result ≤ c.fitting-listed-2.result = c.write_numbers.ensures.0 in
     let puts = rw at at c.write_numbers.ensures.2 in
-    let some : 0 < length v = omega (arith, c.if-values-eq0.false) in
+    let some : 0 < length v = grind (arith, nat_tests, c.if-is_empty.ensures) in
     rw (reach-numbers v a.packed.now some)
     (record {
       most = le_trans less (le_of_eq most);

@@ -12,7 +12,7 @@ use Rattle.write_steps.proofs.next_value.Goals as goal
 pub returns-then-count-index : goal.returns-then-count-index
 returns-then-count-index c =
     let a = c.args in
-    omega (arith, c.count.ensures, length-append a.values.now (values_in a.packed.now), length-values_in a.packed.now)
+    (omega (arith, c.count.ensures, length-append a.values.now (values_in a.packed.now), length-values_in a.packed.now), c.missing.ensures)
 
 pub returns : goal.returns
 returns c =

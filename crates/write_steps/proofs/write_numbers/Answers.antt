@@ -1,13 +1,14 @@
 use Prim.Native.Nat.{ℕ, suc, ◌+◌, ◌-◌, ◌<◌}
-use mathlib.Core.Path.{◌≡◌, refl, ap}
+use mathlib.Core.Path.{◌≡◌, refl}
 use native.Mathlib.Omega.{arith}
 use borrow.Author.Rules.{rules}
 use lib.IntN.{ℤ}
 use mir.Syntax.{w64}
 use mir.Val.{to_z, of_z}
 use Rattle.item.specs.Code.{Code, number}
-use Rattle.items.specs.Items.{one, times}
+use Rattle.items.specs.Items.{one}
 use Rattle.item.proofs.Naturals.{held}
+use Rattle.item.proofs.Returned.{returned}
 use Rattle.items.proofs.Runs.{times_none, run_first}
 use Rattle.write_steps.specs.Writes.{list_in, state_at}
 use Rattle.write_steps.proofs.Flow.{continues-trans, continues_same, continues_end}
@@ -18,53 +19,49 @@ use Rattle.write_steps.proofs.write_numbers.Goals as goal
 abbrev code : ℤ → ℕ → Code
 code low span = number (to_z w64 (of_z w64 low)) span
 
-pub loop-done-init : goal.loop-done-init
-loop-done-init c = (omega arith, refl, continues_same (ap (λ (n : ℕ). times n (one (code c.args.low c.args.span))) (omega arith)))
-
 -- what is left begins with one number
 run_more : (count done : ℕ) → done < count → count - done ≡ suc (count - (done + 1))
 run_more count done h = omega arith
 
-pub returns-in_default : goal.returns-in_default
-returns-in_default c =
+pub returns-in_err-value : goal.returns-in_err-value
+returns-in_err-value c =
     let a = c.args in
-    let loop = c.loop-done in
+    let loop = c.loop in
     let k = code a.low a.span in
-    rw (← held a.low (omega arith))
-    (loop.invariant.2.complete _ _
-    (first_missing k _ (run_first k (a.count - loop.done) (a.count - (loop.done + 1)) (run_more a.count loop.done c.loop-done-test.true))
-    c.next_value-given.result c.missing.result c.next_value-given.ensures c.in_default.is c.missing.ensures))
+    rw (returned _ c.from_residual.ensures, ← held a.low (omega arith))
+    (loop.invariant.1.complete _ _
+    (first_missing k _ (run_first k (a.count - loop.counter) (a.count - (loop.counter + 1)) (run_more a.count loop.counter c.loop-test.true))
+    c.next_value.result c.next_value.ensures c.in_err-value.was))
 
-pub returns-in_default-step : goal.returns-in_default-step
-returns-in_default-step c =
+pub returns-in_err-here : goal.returns-in_err-here
+returns-in_err-here c =
     let a = c.args in
-    let loop = c.loop-done in
+    let loop = c.loop in
     let k = code a.low a.span in
-    let put : Putting k (list_in a.values.now a.packed.now) (state_at loop.here loop.output) c.number-put.new.output c.in-Value.value c.moved-step.result =
-    putting _ c.next_value-given.result c.number-put.result _ _ refl c.next_value-given.ensures c.in-Value.is
-    (held c.in-Value.value (search rules)) c.number-put.ensures c.moved-step.ensures in
-    rw (c.in_default-step.is, ← held a.low (omega arith))
-    (loop.invariant.2.complete _ _
-    (first_refused k _ (run_first k (a.count - loop.done) (a.count - (loop.done + 1)) (run_more a.count loop.done c.loop-done-test.true))
-    put c.in_default-step.is))
+    let put : Putting k (list_in a.values.now a.packed.now) (state_at loop.here loop.output) c.number-put.new.output c.in_ok-value.value c.moved.result =
+    putting _ c.next_value.result c.number-put.result _ _ refl c.next_value.ensures c.in_ok-value.was
+    (held c.in_ok-value.value (search rules)) c.number-put.ensures c.moved.ensures in
+    rw (returned _ c.from_residual-in_err-here.ensures, ← held a.low (omega arith))
+    (loop.invariant.1.complete _ _
+    (first_refused k _ (run_first k (a.count - loop.counter) (a.count - (loop.counter + 1)) (run_more a.count loop.counter c.loop-test.true))
+    put c.in_err-here.was))
 
-pub loop-done-preserved : goal.loop-done-preserved
-loop-done-preserved c =
+pub loop-preserved : goal.loop-preserved
+loop-preserved c =
     let a = c.args in
-    let loop = c.loop-done in
+    let loop = c.loop in
     let k = code a.low a.span in
-    let put : Putting k (list_in a.values.now a.packed.now) (state_at loop.here loop.output) c.number-put.new.output c.in-Value.value c.moved-step.result =
-    putting _ c.next_value-given.result c.number-put.result _ _ refl c.next_value-given.ensures c.in-Value.is
-    (held c.in-Value.value (search rules)) c.number-put.ensures c.moved-step.ensures in (
+    let put : Putting k (list_in a.values.now a.packed.now) (state_at loop.here loop.output) c.number-put.new.output c.in_ok-value.value c.moved.result =
+    putting _ c.next_value.result c.number-put.result _ _ refl c.next_value.ensures c.in_ok-value.was
+    (held c.in_ok-value.value (search rules)) c.number-put.ensures c.moved.ensures in (
       search rules,
-      search rules,
-      continues-trans loop.invariant.2
-          (first_put k _ (run_first k (a.count - loop.done) (a.count - (loop.done + 1)) (run_more a.count loop.done c.loop-done-test.true))
-          put c.in-Past.is),
+      continues-trans loop.invariant.1
+          (first_put k _ (run_first k (a.count - loop.counter) (a.count - (loop.counter + 1)) (run_more a.count loop.counter c.loop-test.true))
+          put c.in_ok-here.was),
     )
 
 pub returns : goal.returns
 returns c =
     let a = c.args in
     rw (← held a.low (omega arith))
-    (continues_end (continues-trans c.loop-done.invariant.2 (continues_same (times_none (a.count - c.loop-done.done) (one (code a.low a.span)) (omega arith)))))
+    (continues_end (continues-trans c.loop.invariant.1 (continues_same (times_none (a.count - c.loop.counter) (one (code a.low a.span)) (omega arith)))))

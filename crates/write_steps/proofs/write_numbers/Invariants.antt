@@ -1,6 +1,6 @@
 -- `write_steps::write_numbers` meets its contract. Invariant: writing the run comes to writing what is left of it.
 -- Assumes nothing.
-use Prim.Native.Nat.{◌-◌, ◌≤◌}
+use Prim.Native.Nat.{◌-◌}
 use mathlib.Core.Path.{◌≡◌}
 use lib.ListN.{length}
 use Rattle.item.specs.Code.{number}
@@ -8,10 +8,7 @@ use Rattle.items.specs.Items.{one, times}
 use Rattle.write_steps.specs.Writes.{list_in, state_at, Continues}
 use Rattle.write_steps.proofs.write_numbers.Given as goal
 
-abbrev pub invariant-loop-done : goal.invariant-loop-done
-invariant-loop-done l = let code = number l.low l.span in
-    (l.done ≤ l.count) × (length l.output ≡ length l.initial.output)
-    × Continues (list_in l.values l.packed) (times l.count (one code)) (state_at l.initial.here l.initial.output) (times (l.count - l.done) (one code)) (state_at l.here l.output)
-
-abbrev pub decreases-loop-done : goal.decreases-loop-done
-decreases-loop-done l = l.count - l.done
+abbrev pub invariant-loop : goal.invariant-loop
+invariant-loop l = let code = number l.low l.span in
+    (length l.output ≡ length l.initial.output)
+    × Continues (list_in l.values l.packed) (times l.count (one code)) (state_at l.initial.here l.initial.output) (times (l.count - l.counter) (one code)) (state_at l.here l.output)

@@ -23,4 +23,4 @@ pub returns : goal.returns
 returns c =
     let a = c.args in
     let put = continues-octets (list_in a.values.now a.packed.now) c.write-done.result a.count (state_at a.cursor a.output.now) c.write-done.new.output c.write-done.ensures in
-    rw c.again.ensures (put.complete _ _ (rw c.further.ensures at c.write_numbers-step.ensures))
+    put.complete _ _ (rw c.further.ensures at c.write_numbers.ensures)

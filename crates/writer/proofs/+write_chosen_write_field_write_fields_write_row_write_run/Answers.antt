@@ -6,6 +6,7 @@ use borrow.Author.Rules.{rules}
 use lib.ListN.{get_or}
 use Rattle.octets.specs.Numbers.{u16}
 use Rattle.bits.specs.Bits.{bits_of}
+use Rattle.item.proofs.Returned.{returned}
 use Rattle.row.proofs.Bools.{inside_within}
 use Rattle.table.proofs.Obeyed.{earlier-starts, row-starts_inside, number-row, variable-row, record-row}
 use Rattle.items.specs.Items.{Items, ◌then◌, times}
@@ -19,8 +20,8 @@ use Rattle.writer.proofs.+write_chosen_write_field_write_fields_write_row_write_
 
 -- ── a row that is no choice ──
 
-pub write_chosen-returns-in-Done : goal.write_chosen-returns-in-Done
-write_chosen-returns-in-Done t c = continues_end (rw c.in-Done.is at c.begin-begun.ensures)
+pub write_chosen-returns-in-Nothing : goal.write_chosen-returns-in-Nothing
+write_chosen-returns-in-Nothing t c = continues_end (rw c.in-Nothing.is at c.in_ok-left.ensures)
 
 -- ── one field ──
 
@@ -65,7 +66,7 @@ write_fields-count_at-fields-requires t c = omega (arith, (record-row c.requires
 pub write_fields-loop-field-init : goal.write_fields-loop-field-init
 write_fields-loop-field-init t c =
     let a = c.args in
-    (omega arith, refl, continues_same (fields-start (items a.table.now) a.table.now a.at a.mask))
+    (refl, continues_same (fields-start (items a.table.now) a.table.now a.at a.mask))
 
 pub write_fields-field_at-row-requires : goal.write_fields-field_at-row-requires
 write_fields-field_at-row-requires t c =
@@ -76,20 +77,20 @@ write_fields-is_marked-present-requires t c =
     let e = c.count_at-fields.ensures.0 in
     (omega arith, omega (arith, (record-row c.requires.0 c.requires.1 c.requires.2).most), rw e c.requires.3)
 
-pub write_fields-write_field-step-requires : goal.write_fields-write_field-step-requires
-write_fields-write_field-step-requires t c =
+pub write_fields-write_field-requires : goal.write_fields-write_field-requires
+write_fields-write_field-requires t c =
     let pre = c.requires in
     let field = (record-row pre.0 pre.1 pre.2).field c.loop-field.field (omega (arith, c.count_at-fields.ensures.0)) in
     (omega arith, (pre.0, pre.1, rw c.field_at-row.ensures.0 field, search rules))
 
-pub write_fields-returns-in_default : goal.write_fields-returns-in_default
-write_fields-returns-in_default t c =
+pub write_fields-returns-in_err-here : goal.write_fields-returns-in_err-here
+write_fields-returns-in_err-here t c =
     let a = c.args in
     let field = c.loop-field.field in
     let next = fields_next (items a.table.now) a.table.now a.at a.mask field _ _ (omega (arith, c.count_at-fields.ensures.0)) c.field_at-row.ensures.0
     (c.is_marked-present.ensures ∙ ap (λ (n : ℕ). get_or (bits_of n a.mask) field false) c.count_at-fields.ensures.0) in
-    rw c.again.ensures
-    ((continues-trans c.loop-field.invariant.2 (continues_same next)).complete _ _ (refused_part _ _ c.write_field-step.ensures c.in_default.is))
+    rw (returned _ c.from_residual.ensures)
+    ((continues-trans c.loop-field.invariant.1 (continues_same next)).complete _ _ (refused_part _ _ c.in_err-here.ensures refl))
 
 pub write_fields-loop-field-preserved : goal.write_fields-loop-field-preserved
 write_fields-loop-field-preserved t c =
@@ -97,16 +98,15 @@ write_fields-loop-field-preserved t c =
     let field = c.loop-field.field in
     let next = fields_next (items a.table.now) a.table.now a.at a.mask field _ _ (omega (arith, c.count_at-fields.ensures.0)) c.field_at-row.ensures.0
     (c.is_marked-present.ensures ∙ ap (λ (n : ℕ). get_or (bits_of n a.mask) field false) c.count_at-fields.ensures.0) in (
-      omega arith,
       search rules,
-      continues-trans c.loop-field.invariant.2 (continues-trans (continues_same next) (continues_part _ _ c.write_field-step.ensures c.in-Past.is)),
+      continues-trans c.loop-field.invariant.1 (continues-trans (continues_same next) (continues_part _ _ c.write_field.ensures c.in_ok-here.was)),
     )
 
 pub write_fields-returns : goal.write_fields-returns
 write_fields-returns t c =
     let a = c.args in
     let e : c.loop-field.field ≡ u16 a.table.now (a.at + 4) = omega (arith, c.count_at-fields.ensures.0) in
-    continues_end (continues-trans c.loop-field.invariant.2 (continues_same (fields_end (items a.table.now) a.table.now a.at a.mask c.loop-field.field e)))
+    continues_end (continues-trans c.loop-field.invariant.1 (continues_same (fields_end (items a.table.now) a.table.now a.at a.mask c.loop-field.field e)))
 
 -- ── a run ──
 
@@ -116,22 +116,22 @@ next_row count done p h =
     let more : count - done ≡ suc (count - (done + 1)) = omega arith in
     times_more (count - done) (count - (done + 1)) p more
 
-pub write_run-returns-in_default : goal.write_run-returns-in_default
-write_run-returns-in_default t c =
+pub write_run-returns-in_err-here : goal.write_run-returns-in_err-here
+write_run-returns-in_err-here t c =
     let a = c.args in
-    let next = next_row a.count c.loop-done.done (items a.table.now a.row) c.loop-done-test.true in
-    (continues-trans c.loop-done.invariant.2 (continues_same next)).complete _ _ (refused_part _ _ c.write_row-step.ensures c.in_default.is)
+    let next = next_row a.count c.loop.counter (items a.table.now a.row) c.loop-test.true in
+    rw (returned _ c.from_residual.ensures)
+    ((continues-trans c.loop.invariant.1 (continues_same next)).complete _ _ (refused_part _ _ c.in_err-here.ensures refl))
 
-pub write_run-loop-done-preserved : goal.write_run-loop-done-preserved
-write_run-loop-done-preserved t c =
+pub write_run-loop-preserved : goal.write_run-loop-preserved
+write_run-loop-preserved t c =
     let a = c.args in
-    let next = next_row a.count c.loop-done.done (items a.table.now a.row) c.loop-done-test.true in (
-      omega arith,
+    let next = next_row a.count c.loop.counter (items a.table.now a.row) c.loop-test.true in (
       search rules,
-      continues-trans c.loop-done.invariant.2 (continues-trans (continues_same next) (continues_part _ _ c.write_row-step.ensures c.in-Past.is)),
+      continues-trans c.loop.invariant.1 (continues-trans (continues_same next) (continues_part _ _ c.write_row.ensures c.in_ok-here.was)),
     )
 
 pub write_run-returns : goal.write_run-returns
 write_run-returns t c =
     let a = c.args in
-    continues_end (continues-trans c.loop-done.invariant.2 (continues_same (times_none (a.count - c.loop-done.done) (items a.table.now a.row) (omega arith))))
+    continues_end (continues-trans c.loop.invariant.1 (continues_same (times_none (a.count - c.loop.counter) (items a.table.now a.row) (omega arith))))

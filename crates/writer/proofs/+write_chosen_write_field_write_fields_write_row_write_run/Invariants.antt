@@ -2,7 +2,7 @@
 -- earlier rows, meet their contracts. The measure is eight times the row's offset, and a little more by the function. The loops'
 -- invariant: writing the whole comes to writing what is left.
 -- Assumes nothing.
-use Prim.Native.Nat.{◌+◌, ◌-◌, ◌*◌, ◌≤◌}
+use Prim.Native.Nat.{◌+◌, ◌-◌, ◌*◌}
 use mathlib.Core.Path.{◌≡◌}
 use lib.ListN.{length}
 use Rattle.items.specs.Items.{times}
@@ -28,17 +28,11 @@ abbrev pub decreases-write_run : goal.decreases-write_run
 decreases-write_run l = l.at * 8 + 1
 
 abbrev pub invariant-write_fields-loop-field : goal.invariant-write_fields-loop-field
-invariant-write_fields-loop-field l = (l.field ≤ l.fields) × (length l.output ≡ length l.initial.output)
+invariant-write_fields-loop-field l = (length l.output ≡ length l.initial.output)
     × Continues (list_in l.values l.packed) (marked_fields (items l.table) l.table l.at l.mask) (state_at l.initial.here l.initial.output)
     (fields_from (items l.table) l.table l.at l.mask l.field) (state_at l.here l.output)
 
-abbrev pub decreases-write_fields-loop-field : goal.decreases-write_fields-loop-field
-decreases-write_fields-loop-field l = l.fields - l.field
-
-abbrev pub invariant-write_run-loop-done : goal.invariant-write_run-loop-done
-invariant-write_run-loop-done l = (l.done ≤ l.count) × (length l.output ≡ length l.initial.output)
+abbrev pub invariant-write_run-loop : goal.invariant-write_run-loop
+invariant-write_run-loop l = (length l.output ≡ length l.initial.output)
     × Continues (list_in l.values l.packed) (times l.count (items l.table l.row)) (state_at l.initial.here l.initial.output)
-    (times (l.count - l.done) (items l.table l.row)) (state_at l.here l.output)
-
-abbrev pub decreases-write_run-loop-done : goal.decreases-write_run-loop-done
-decreases-write_run-loop-done l = l.count - l.done
+    (times (l.count - l.counter) (items l.table l.row)) (state_at l.here l.output)

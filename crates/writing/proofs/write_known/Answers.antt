@@ -29,4 +29,4 @@ returns c =
     let stands : WrittenBy outcome new = subst (λ (x : WriteOutcome). WrittenBy x new) counted c.write_root-answer.ensures.1 in
     let whole : length (new ++ drop most old) ≡ n = length-append new (drop most old) ∙ omega (arith, c.write_root-answer.auto.output, lt, length-drop most old) in
     let k : c.written_count-written.result ≡ length (write_octets outcome) = c.written_count-written.ensures ∙ ap written_count answer ∙ written_is outcome in
-    rw (write-passed t list n c.requires.0) (answer, c.clear_octets.ensures ∙ rw k (settled-output outcome new (drop most old) n whole stands))
+    rw (write-passed t list n c.requires.0) (answer, c.clear.ensures ∙ rw k (settled-output outcome new (drop most old) n whole stands))

@@ -1,5 +1,4 @@
 use native.Mathlib.Omega.{arith}
-use Prim.Native.Nat.{◌-◌}
 use Rattle.rules.specs.Rules.{here, Starts, Obeys}
 use Rattle.table.proofs.Decides.{reach_on, row-four, passes-exactly}
 use Rattle.table.proofs.Obeyed.{row_ends, row-starts_inside}
