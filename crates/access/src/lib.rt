@@ -91,7 +91,8 @@ fn replace_in_pair(output: &mut [u8], at: usize, first: u64, below: u32, k: u32,
 }
 
 // Stores the k bits of v from a place on, in two octets where they lie in two, else in the five that begin with the place's;
-// every other bit stays.
+// every other bit stays. Kept a call, so that the way for one octet, in front of it, is small enough to be compiled into its callers.
+#[inline(never)]
 fn store_wide(output: &mut [u8], place: BitPlace, k: u32, v: u32) -> Option<BitPlace>
     requires { (length output.old ≤ most_octets) × (k ≤ 32) × (v < 2 ^ k) }
     ensures { (result ≡ stored output.old place.0 k) × (unpack output.new ≡ overwritten (unpack output.old) place.0 (bits_of k v)) }
