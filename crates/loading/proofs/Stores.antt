@@ -6,11 +6,17 @@ use mathlib.Core.Path.{◌≡◌, refl, sym, ap, ◌∙◌}
 use mathlib.Core.List.{List, [], ◌++◌, append-nil, append_assoc}
 use native.Mathlib.Omega.{arith}
 use lib.ListN.{length, take, drop, replicate, length-append, length-drop, take-append-drop}
-use lib.Seq.{take_at, drop_at, length-take-le}
+use lib.Seq.{take_at, drop_at, length-take-le, paste}
+use Rattle.std.proofs.lemmas.List.{drop_all}
+use Rattle.std.proofs.lemmas.List.Edits.{paste_all}
 use borrow.Rule.Slice.PartMut.{put_mid}
 use Rattle.items.specs.Slices.{filled}
 use Rattle.items.proofs.Filled.{filled_up}
 use Rattle.loading.specs.State.{numbers_of, state_with}
+
+-- a list that is copied over all of another
+pub pasted_whole : (l t : List ℕ) → length l ≡ length t → paste l 0 t (length t) ≡ t
+pasted_whole l t e = rw (paste_all l 0 t (length t) refl, drop_all (0 + length t) l (omega arith), append-nil t) refl
 
 -- a list put in place of a part
 over : (p part q new : List ℕ) (at n : ℕ) → length p ≡ at → length part ≡ n → put_mid at n (p ++ (part ++ q)) new ≡ p ++ (new ++ q)

@@ -44,7 +44,7 @@ fn store(state: &mut [u8], table: &[u8], depths: &[u8], rows: usize, root: usize
     requires { (length state.old ≡ 6160) × (length table.now ≤ 4096) × (length depths.now ≡ 2048) }
     ensures { state.new ≡ state_with table.now depths.now rows root }
 {
-    state[..table.len()].copy_from_slice(table);
+    values::copy_octets(&mut state[..table.len()], 0, table);
     state[table.len()..DEPTHS].fill(0);
     state[DEPTHS..LENGTH].copy_from_slice(depths);
     state[LENGTH..].copy_from_slice(&numbers(table.len(), rows, root));

@@ -101,6 +101,7 @@ pub fn copy_octets(octets: &mut [u8], from: usize, copied: &[u8])
     requires { from + length copied.now ≤ length octets.old }
     ensures { octets.new ≡ paste octets.old from copied.now (length copied.now) }
 {
-    let end = from + copied.len();
-    octets[from..end].copy_from_slice(copied);
+    for (at, octet) in copied.iter().enumerate() {
+        octets[from + at] = *octet;
+    }
 }
