@@ -126,7 +126,7 @@ abbrev pub refusal_at : ℕ → ℕ → Refusal
 refusal_at number place = record { number = number; place = place }
 
 -- the case for each outcome: a refusal's number and place; the values, bits and octets counted. Every promise of an answer uses
--- `accepted`, and `refused` or `Refused` of a refusal that `refusal_at` made
+-- `accepted`, and `refused` or `Err` of a refusal that `refusal_at` made
 abbrev pub refused : ℕ → ℕ → Answer
 refused number place = Err (refusal_at number place)
 

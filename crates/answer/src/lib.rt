@@ -106,14 +106,20 @@ impl Reason {
     {
         self as u32
     }
+
+    // The refusal for this reason at a place.
+    pub fn at_place(self, place: usize) -> Refusal
+        ensures { result ≡ refusal_at (reason_number self) place }
+    {
+        Refusal::new(self.number(), place)
+    }
 }
 
 impl Refusal {
-    // A refusal for a reason at a place. No other function makes one.
-    pub fn new(reason: Reason, place: usize) -> Refusal
-        ensures { result ≡ refusal_at (reason_number reason) place }
+    // A refusal of a number at a place. No other function makes one.
+    pub fn new(number: u32, place: usize) -> Refusal
+        ensures { result ≡ refusal_at number place }
     {
-        let number = reason.number();
         Refusal { number, place }
     }
 }

@@ -39,7 +39,7 @@ const N_HOP: u32 = 2;
 fn refused(reason: Reason, place: usize) -> Result<u32, Refusal>
     ensures { result ≡ refused_head (refusal_at (reason_number reason) place) }
 {
-    Err(Refusal::new(reason, place))
+    Err(reason.at_place(place))
 }
 
 // The fields of a head, out of its whole octets.
@@ -142,7 +142,7 @@ fn stay(count: usize, reason: Reason, place: usize) -> Step
 {
     Step {
         at: count,
-        answer: Err(Refusal::new(reason, place)),
+        answer: Err(reason.at_place(place)),
     }
 }
 
@@ -196,13 +196,14 @@ fn lower(message: &[u8], output: &mut [u8])
     output[3] = message[3] - 1;
 }
 
-// The output of an answer.
-pub fn emit(message: &[u8], answer: Answer, output: &mut [u8])
+// The output of an answer, which is told again.
+pub fn emit(message: &[u8], answer: Answer, output: &mut [u8]) -> Answer
     requires { Emits answer message.now (length output.old) }
-    ensures { output.new ≡ output_by answer message.now (length output.old) }
+    ensures { (result ≡ answer) × (output.new ≡ output_by answer message.now (length output.old)) }
 {
     match answer {
         Ok(_) => lower(message, output),
         Err(_) => output.fill(0),
     }
+    answer
 }

@@ -35,8 +35,7 @@ pub fn forward(message: &[u8], time: u32, seen: &mut [Seen], output: &mut [u8]) 
 {
     let ask = forward::asked(message, time, output.len());
     let answer = remember(seen, ask);
-    forward::emit(message, answer, output);
-    answer
+    forward::emit(message, answer, output)
 }
 
 // A list of 64 records and the answer of a call on it.
@@ -59,7 +58,7 @@ pub fn forward_in(message: &[u8], time: u32, seen: [Seen; 64], output: &mut [u8]
     ensures { (result ≡ forwarded_in message.now time seen (length output.old)) × (output.new ≡ forward_output message.now time seen (length output.old)) }
 {
     let ask = forward::asked(message, time, output.len());
-    let taken = remember_in(seen, ask);
-    forward::emit(message, taken.answer, output);
-    taken
+    let Forwarded { seen, answer } = remember_in(seen, ask);
+    let answer = forward::emit(message, answer, output);
+    Forwarded { seen, answer }
 }

@@ -125,7 +125,7 @@ pub fn settled(table: &[u8], at: usize) -> bool
 pub fn unreadable(place: BitPlace) -> Refusal
     ensures { result ≡ refusal_at no_branch place.0 }
 {
-    Refusal::new(Reason::NoBranch, place.0)
+    Reason::NoBranch.at_place(place.0)
 }
 
 // Whether the row at an offset can be the root: it can be read, and its depth is one that a row may have.

@@ -75,7 +75,7 @@ fn hops(
     let from = cursor.place.0;
     let f = whole::fetch(&*message, cursor.place, 3);
     let Some((number, next)) = f else {
-        return Err(Refusal::new(Reason::MessageEnds, from));
+        return Err(Reason::MessageEnds.at_place(from));
     };
     let second = whole::keep(
         number / 4,

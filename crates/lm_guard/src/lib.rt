@@ -5,7 +5,7 @@
 ghost use Rattle.std.specs.Prelude.{◌≡◌};
 ghost use Rattle.lm_guard.specs.Tested.{lm_tested, lm_list_tested};
 
-use answer::{Answer, Counts, Reason, Refusal};
+use answer::{Answer, Counts, Reason};
 use bits::{BitPlace, OctetSize};
 
 // The tests before an LM's items: 13, 2 where there are no octets, 10 on the version, 11 on the subtype. What passes them is
@@ -14,16 +14,16 @@ pub fn lm_tested(message: &[u8]) -> Answer
     ensures { result ≡ lm_tested message.now }
 {
     if OctetSize::MOST < message.len() {
-        return Err(Refusal::new(Reason::TooLong, 0));
+        return Err(Reason::TooLong.at_place(0));
     }
-    let ends = Refusal::new(Reason::MessageEnds, 0);
+    let ends = Reason::MessageEnds.at_place(0);
     let (version, _) = access::fetch(message, BitPlace(5), 3).ok_or(ends)?;
     if version != 3 {
-        return Err(Refusal::new(Reason::WrongVersion, 5));
+        return Err(Reason::WrongVersion.at_place(5));
     }
     let (subtype, _) = access::fetch(message, BitPlace(0), 4).ok_or(ends)?;
     if 2 < subtype {
-        return Err(Refusal::new(Reason::WrongSubtype, 0));
+        return Err(Reason::WrongSubtype.at_place(0));
     }
     Ok(Counts::default())
 }
@@ -34,13 +34,13 @@ pub fn lm_list_tested(values: &[i64]) -> Answer
     ensures { result ≡ lm_list_tested values.now }
 {
     let [subtype, _, version, ..] = values else {
-        return Err(Refusal::new(Reason::WrongValue, values.len()));
+        return Err(Reason::WrongValue.at_place(values.len()));
     };
     if *version != 3 {
-        return Err(Refusal::new(Reason::WrongVersion, 2));
+        return Err(Reason::WrongVersion.at_place(2));
     }
     if *subtype < 0 || 2 < *subtype {
-        return Err(Refusal::new(Reason::WrongSubtype, 0));
+        return Err(Reason::WrongSubtype.at_place(0));
     }
     Ok(Counts::default())
 }

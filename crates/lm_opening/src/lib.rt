@@ -50,14 +50,14 @@ fn network(
     let from = cursor.place.0;
     let f = whole::fetch(&*message, cursor.place, 1);
     let Some((octet, next)) = f else {
-        return Err(Refusal::new(Reason::MessageEnds, from));
+        return Err(Reason::MessageEnds.at_place(from));
     };
     let subtype = octet / 16;
     if 2 < subtype {
-        return Err(Refusal::new(Reason::NoBranch, from));
+        return Err(Reason::NoBranch.at_place(from));
     }
     if original && subtype == 1 {
-        return Err(Refusal::new(Reason::NoBranch, from));
+        return Err(Reason::NoBranch.at_place(from));
     }
     let second = whole::keep(subtype, BitPlace(from + 4), values, packed, room, cursor)?;
     let flag = octet / 8 % 2;
@@ -80,11 +80,11 @@ fn transport(
     let from = cursor.place.0;
     let f = whole::fetch(&*message, cursor.place, 1);
     let Some((octet, next)) = f else {
-        return Err(Refusal::new(Reason::MessageEnds, from));
+        return Err(Reason::MessageEnds.at_place(from));
     };
     let selector = octet / 2;
     if 1 < selector {
-        return Err(Refusal::new(Reason::NoBranch, from));
+        return Err(Reason::NoBranch.at_place(from));
     }
     let second = whole::keep(selector, BitPlace(from + 7), values, packed, room, cursor)?;
     let flag = octet % 2;

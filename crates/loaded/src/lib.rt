@@ -66,13 +66,13 @@ fn read_either(
     ensures { (result ≡ read_answer (through_state state.now message.now room)) × KeptBy set (through_state state.now message.now room) values.old values.new × KeptBy set_value (through_state state.now message.now room) packed.old packed.new }
 {
     if state[OUTCOME] != PASSED {
-        return Err(Refusal::new(Reason::NoTable, 0));
+        return Err(Reason::NoTable.at_place(0));
     }
     if OctetSize::MOST < message.len() {
-        return Err(Refusal::new(Reason::TooLong, 0));
+        return Err(Reason::TooLong.at_place(0));
     }
     if message.len() == 0 {
-        return Err(Refusal::new(Reason::MessageEnds, 0));
+        return Err(Reason::MessageEnds.at_place(0));
     }
     read_message(state, message, values, packed, room)
 }

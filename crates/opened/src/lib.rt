@@ -34,7 +34,7 @@ pub fn opening(message: &[u8]) -> Answer
     ensures { result ≡ opening message.now }
 {
     if OctetSize::MOST < message.len() {
-        return Err(Refusal::new(Reason::TooLong, 0));
+        return Err(Reason::TooLong.at_place(0));
     }
     Ok(Counts::default())
 }
@@ -45,12 +45,12 @@ pub fn take_from(message: &[u8], place: BitPlace, k: u32) -> Result<(u32, BitPla
     ensures { result ≡ taken (kept message.now) place.0 k }
 {
     if MOST_BITS < k {
-        return Err(Refusal::new(Reason::OutsideLimits, place.0));
+        return Err(Reason::OutsideLimits.at_place(place.0));
     }
     if k == 0 {
         return Ok((0, place));
     }
-    access::fetch(held(message), place, k).ok_or_else(|| Refusal::new(Reason::MessageEnds, place.0))
+    access::fetch(held(message), place, k).ok_or_else(|| Reason::MessageEnds.at_place(place.0))
 }
 
 // Where taking leaves an opened message: k on, or where it was.

@@ -22,7 +22,7 @@ fn bits_at(message: &[u8], place: BitPlace, k: u32) -> Result<(u32, BitPlace), R
     if k == 0 {
         return Ok((0, place));
     }
-    access::fetch(message, place, k).ok_or(Refusal::new(Reason::MessageEnds, place.0))
+    access::fetch(message, place, k).ok_or(Reason::MessageEnds.at_place(place.0))
 }
 
 // The eight bits from a place on: one load where they are an octet of the message.
@@ -35,7 +35,7 @@ fn octet_at(message: &[u8], place: BitPlace) -> Result<(u32, BitPlace), Refusal>
     }
     match message.get(place.octets_before().0) {
         Some(octet) => Ok((u32::from(*octet), BitPlace(place.0 + 8))),
-        None => Err(Refusal::new(Reason::MessageEnds, place.0)),
+        None => Err(Reason::MessageEnds.at_place(place.0)),
     }
 }
 
@@ -51,7 +51,7 @@ pub fn number(
 {
     let (n, next) = bits_at(message, place, item::width(span))?;
     if span < n {
-        return Err(Refusal::new(Reason::AboveSpan, place.0));
+        return Err(Reason::AboveSpan.at_place(place.0));
     }
     let value = low + i64::from(n);
     Ok((value, next))
@@ -86,7 +86,7 @@ pub fn variable(message: &[u8], place: BitPlace) -> Result<(i64, BitPlace), Refu
         return Ok((i64::from(first), next));
     }
     if 3 < ones {
-        return Err(Refusal::new(Reason::BadVariable, place.0));
+        return Err(Reason::BadVariable.at_place(place.0));
     }
     let form = Form::after_ones(ones);
     let (n, after) = bits_at(message, place, form.bits)?;
@@ -105,13 +105,13 @@ fn bounded(
     ensures { result ≡ bounded_length place.0 n next shortest least most }
 {
     if n < shortest {
-        return Err(Refusal::new(Reason::BadLength, place.0)); // the long form of a short length
+        return Err(Reason::BadLength.at_place(place.0)); // the long form of a short length
     }
     if n < least {
-        return Err(Refusal::new(Reason::OutsideLimits, place.0)); // below its least
+        return Err(Reason::OutsideLimits.at_place(place.0)); // below its least
     }
     if most < n {
-        return Err(Refusal::new(Reason::OutsideLimits, place.0)); // above its most
+        return Err(Reason::OutsideLimits.at_place(place.0)); // above its most
     }
     Ok((i64::from(n), next))
 }
@@ -132,7 +132,7 @@ pub fn length(
         return bounded(place, first, next, 0, least, most);
     }
     if 1 < ones {
-        return Err(Refusal::new(Reason::BadLength, place.0)); // its first two bits
+        return Err(Reason::BadLength.at_place(place.0)); // its first two bits
     }
     let form = Form::after_ones(ones);
     let (n, after) = bits_at(message, place, form.bits)?; // its second octet
@@ -155,5 +155,5 @@ pub fn index(
     if item::has_branch(table, from, m, n as usize) {
         return Ok((i64::from(n), next));
     }
-    Err(Refusal::new(Reason::NoBranch, place.0))
+    Err(Reason::NoBranch.at_place(place.0))
 }

@@ -34,7 +34,7 @@ pub fn keep(
 {
     let at = cursor.count;
     if room <= at {
-        return Err(Refusal::new(Reason::NoRoom, cursor.place.0));
+        return Err(Reason::NoRoom.at_place(cursor.place.0));
     }
     values::keep(values, packed, at, value);
     Ok(Cursor {
@@ -101,11 +101,11 @@ pub fn close(message: &[u8], end: Cursor) -> Answer
     let after = place.0;
     let size = OctetSize::holding(place);
     if message.len() != size.0 {
-        return Err(Refusal::new(Reason::NotPadding, after));
+        return Err(Reason::NotPadding.at_place(after));
     }
     let all = BitPlace::after(size);
     if access::last_bits(message, (all.0 - after) as u32) != 0 {
-        return Err(Refusal::new(Reason::NotPadding, after));
+        return Err(Reason::NotPadding.at_place(after));
     }
     Ok(Counts::new(end.count, place, OctetSize(0)))
 }

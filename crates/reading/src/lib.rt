@@ -15,7 +15,7 @@ ghost use Rattle.items.specs.Slices.{values_after};
 ghost use Rattle.read_steps.specs.Ends.{KeptBy};
 ghost use Rattle.reading.specs.Outcome.{message_outcome};
 
-use answer::{Answer, Reason, Refusal};
+use answer::{Answer, Reason};
 use bits::{BitPlace, OctetSize};
 use read_steps::Cursor;
 
@@ -52,10 +52,10 @@ pub fn read_passed(
     ensures { (result ≡ read_answer (message_outcome table.now message.now room)) × KeptBy set (message_outcome table.now message.now room) values.old values.new × KeptBy set_value (message_outcome table.now message.now room) packed.old packed.new }
 {
     if OctetSize::MOST < message.len() {
-        return Err(Refusal::new(Reason::TooLong, 0));
+        return Err(Reason::TooLong.at_place(0));
     }
     if message.len() == 0 {
-        return Err(Refusal::new(Reason::MessageEnds, 0));
+        return Err(Reason::MessageEnds.at_place(0));
     }
     read_message(table, at, message, values, packed, room)
 }

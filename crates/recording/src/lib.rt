@@ -8,7 +8,7 @@ ghost use Rattle.drive.specs.Replay.{replay};
 ghost use Rattle.recording.specs.Frames.{PlayedUp};
 ghost use Rattle.recording.specs.Part.{replayed_whole, replayed_in, text_left};
 
-use answer::{Answer, Counts, Reason, Refusal};
+use answer::{Answer, Counts, Reason};
 use bits::{BitPlace, OctetSize};
 use machine::Front;
 use seen::Seen;
@@ -73,6 +73,6 @@ pub fn replay(octets: &[u8], seen: [Seen; 64], text: &mut [u8]) -> Replayed
         return replay_whole(octets, seen, text);
     }
     text.fill(0);
-    let answer = Err(Refusal::new(Reason::NoRoom, 0));
+    let answer = Err(Reason::NoRoom.at_place(0));
     Replayed { seen, answer }
 }

@@ -21,18 +21,20 @@ pub fn pass(table: &[u8], depths: &mut [u8]) -> Result<Found, Refusal>
     ensures { (result ≡ pass_of table.now) × (verdict table.now ≡ passed → depths.new ≡ depths_of table.now) }
 {
     if table.len() < Row::LEAST_TABLE || Row::MOST_TABLE < table.len() {
-        return Err(Refusal::new(Reason::TableSize, 0));
+        return Err(Reason::TableSize.at_place(0));
     }
     let mut rows = 0;
     let mut root = 0;
     let mut at = 0;
-    while at < table.len() {
-        let test = rules::row_test(table, at, table.len() - at, depths);
-        let (length, depth) = test.map_err(|reason| Refusal::new(reason, at))?;
+    let mut left = table.len();
+    while 0 < left {
+        let test = rules::row_test(table, at, left, depths);
+        let (length, depth) = test.map_err(|reason| reason.at_place(at))?;
         depths[at / 2] = depth;
         rows += 1;
         root = at;
         at += length;
+        left -= length;
     }
     Ok(Found { rows, root })
 }

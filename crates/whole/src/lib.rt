@@ -71,7 +71,7 @@ pub fn number(
 {
     let f = fetch(&*message, cursor.place, octets);
     let Some((number, next)) = f else {
-        return Err(Refusal::new(Reason::MessageEnds, cursor.place.0));
+        return Err(Reason::MessageEnds.at_place(cursor.place.0));
     };
     keep(number, next, values, packed, room, cursor)
 }

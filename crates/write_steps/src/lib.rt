@@ -34,7 +34,7 @@ pub fn next_value(values: &[i64], packed: &[u8], index: usize) -> Result<(i64, u
 fn missing(index: usize) -> Refusal
     ensures { result ≡ missing_at index }
 {
-    Refusal::new(Reason::WrongValue, index)
+    Reason::WrongValue.at_place(index)
 }
 
 // The cursor after a value that was put; or the refusal, at the value's index.
@@ -46,7 +46,7 @@ pub fn moved(put: Result<BitPlace, Reason>, index: usize, after: usize) -> Resul
             place,
             index: after,
         }),
-        Err(reason) => Err(Refusal::new(reason, index)),
+        Err(reason) => Err(reason.at_place(index)),
     }
 }
 
@@ -109,10 +109,10 @@ pub fn finish(count: usize, output: &mut [u8], end: Cursor) -> Answer
 {
     let index = end.index;
     if index < count {
-        return Err(Refusal::new(Reason::WrongValue, index));
+        return Err(Reason::WrongValue.at_place(index));
     }
     if output.len() == 0 {
-        return Err(Refusal::new(Reason::NoRoom, count));
+        return Err(Reason::NoRoom.at_place(count));
     }
     let place = end.place;
     let size = OctetSize::holding(place);

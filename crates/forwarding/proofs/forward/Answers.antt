@@ -20,4 +20,4 @@ returns c =
     let n = length a.output.now in
     let e = c.asked-ask.ensures in
     let answer = answer_is m a.time a.seen.now n e c.remember-answer.ensures.0 in
-    (answer, list_is m a.time a.seen.now n e c.remember-answer.ensures.1, c.emit.ensures ∙ ap (λ (k : Answer). output_by k m n) answer)
+    (c.emit.ensures.0 ∙ answer, list_is m a.time a.seen.now n e c.remember-answer.ensures.1, c.emit.ensures.1 ∙ ap (λ (k : Answer). output_by k m n) answer)

@@ -55,7 +55,7 @@ returns-in_default c =
     let m = a.message.now in
     let p = a.cursor.place.0 in
     let short = short-front m p 3 22 c.requires.1 (sym c.fetch-f.ensures ∙ c.in_default.is) (omega arith) in
-    rw c.new.ensures
+    rw c.at_place.ensures
     (item-refused message_id (λ v. one hop_count) refl message_id refl (sym (number-ended m p 22 (omega arith) 4194303 id-width short)) refl)
 
 pub returns-in_err-second : goal.returns-in_err-second

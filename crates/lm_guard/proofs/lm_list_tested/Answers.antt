@@ -14,12 +14,12 @@ use Rattle.lm_guard.proofs.lm_list_tested.Goals.{then-subtype-lt0-via-then-subty
 use Rattle.lm_guard.proofs.lm_list_tested.Goals as goal
 
 pub returns-in_default : goal.returns-in_default
-returns-in_default c = ap Err c.new.ensures ∙ list-short c.args.values.now c.in_default.len_below
+returns-in_default c = ap Err c.at_place.ensures ∙ list-short c.args.values.now c.in_default.len_below
 
 pub returns-then-version-ne3 : goal.returns-then-version-ne3
 returns-then-version-ne3 c =
     let vs = c.args.values.now in
-    ap Err c.new-then-version-ne3.ensures ∙ list-version vs c.in-len3-up.len_at_least (version_other (get_or vs 2 (pos 0)) (search rules) c.if-version-ne3.true)
+    ap Err c.at_place-then-version-ne3.ensures ∙ list-version vs c.in-len3-up.len_at_least (version_other (get_or vs 2 (pos 0)) (search rules) c.if-version-ne3.true)
 
 pub returns-then-subtype-lt0 : goal.returns-then-subtype-lt0
 returns-then-subtype-lt0 c =
@@ -29,7 +29,7 @@ returns-then-subtype-lt0 c =
       | then-subtype-lt0-via-then-subtype-lt0 w ↦ subtype-negative (get_or vs 0 (pos 0)) (search rules) w.if-subtype-lt0.true
       | then-subtype-lt0-via-else-subtype-lt0+then-subtype-gt2 w ↦ subtype-high (get_or vs 0 (pos 0)) (search rules) w.if-subtype-gt2.true
     ] in
-    ap Err c.new-then-subtype-lt0.ensures ∙ list-subtype vs c.in-len3-up.len_at_least (version-three (get_or vs 2 (pos 0)) (search rules) c.if-version-ne3.false) none
+    ap Err c.at_place-then-subtype-lt0.ensures ∙ list-subtype vs c.in-len3-up.len_at_least (version-three (get_or vs 2 (pos 0)) (search rules) c.if-version-ne3.false) none
 
 pub returns : goal.returns
 returns c =

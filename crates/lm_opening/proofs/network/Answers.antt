@@ -50,7 +50,7 @@ pub returns-in_default : goal.returns-in_default
 returns-in_default c =
     let inner = c.args.original in
     let short = sym c.fetch-f.ensures ∙ c.in_default.is in
-    rw c.new.ensures
+    rw c.at_place.ensures
     (item-refused _ _ (network-asks inner) _ refl (index-missing _ (branches_of inner) c.requires.1 short (network-width inner) (omega arith)) refl)
 
 pub returns-then-subtype-gt2 : goal.returns-then-subtype-gt2
@@ -58,14 +58,14 @@ returns-then-subtype-gt2 c =
     let inner = c.args.original in
     let octet : Octet c.args.message.now c.args.cursor.place.0 c.in-Some.octet c.in-Some.next = record { fetches = sym c.fetch-f.ensures ∙ c.in-Some.is } in
     let none = network-reserved inner _ c.if-subtype-gt2.true (omega (arith, octet-small octet)) in
-    rw c.new-then-subtype-gt2.ensures (item-refused _ _ (network-asks inner) _ refl (subtype-reserved inner octet none) refl)
+    rw c.at_place-then-subtype-gt2.ensures (item-refused _ _ (network-asks inner) _ refl (subtype-reserved inner octet none) refl)
 
 pub returns-then-subtype-eq1 : goal.returns-then-subtype-eq1
 returns-then-subtype-eq1 c =
     let inner = c.args.original in
     let octet : Octet c.args.message.now c.args.cursor.place.0 c.in-Some.octet c.in-Some.next = record { fetches = sym c.fetch-f.ensures ∙ c.in-Some.is } in
     let none = original-reserved inner _ c.if-original.true c.if-subtype-eq1.true in
-    rw c.new-then-subtype-eq1.ensures (item-refused _ _ (network-asks inner) _ refl (subtype-reserved inner octet none) refl)
+    rw c.at_place-then-subtype-eq1.ensures (item-refused _ _ (network-asks inner) _ refl (subtype-reserved inner octet none) refl)
 
 pub returns-in_err-second : goal.returns-in_err-second
 returns-in_err-second c =

@@ -31,7 +31,7 @@ module _ {m : List ℕ} {p x : ℕ} {q : BitPlace} (octet : Octet m p x q) where
 pub returns-in_default : goal.returns-in_default
 returns-in_default c =
     let short = sym c.fetch-f.ensures ∙ c.in_default.is in
-    rw c.new.ensures
+    rw c.at_place.ensures
     (item-refused _ _ transport-asks _ refl (index-missing _ transport_branches c.requires.1 short transport-width (omega arith)) refl)
 
 pub returns-then-selector-gt1 : goal.returns-then-selector-gt1
@@ -39,7 +39,7 @@ returns-then-selector-gt1 c =
     let octet : Octet c.args.message.now c.args.cursor.place.0 c.in-Some.octet c.in-Some.next = record { fetches = sym c.fetch-f.ensures ∙ c.in-Some.is } in
     let small = octet-small octet in
     let none = transport-reserved (c.in-Some.octet / 2) c.if-selector-gt1.true (omega arith) in
-    rw c.new-then-selector-gt1.ensures
+    rw c.at_place-then-selector-gt1.ensures
     (item-refused _ _ transport-asks
     _ refl (index-reserved octet transport_branches (c.in-Some.octet / 2) 7 1 transport-width (omega arith) refl (omega arith) none) refl)
 

@@ -15,7 +15,7 @@ pub returns-then-state-ne-PASSED : goal.returns-then-state-ne-PASSED
 unfolding held_outcome
 returns-then-state-ne-PASSED c =
     let a = c.args in
-    rw (through_none a.state.now a.message.now a.room c.if-state-ne-PASSED.true) (ap Err c.new.ensures, tt, tt)
+    rw (through_none a.state.now a.message.now a.room c.if-state-ne-PASSED.true) (ap Err c.at_place.ensures, tt, tt)
 
 -- the state holds a table
 
@@ -24,7 +24,7 @@ unfolding held_outcome
 returns-then-message-gt-MOST c =
     let held : held_outcome c.args.state.now ≡ 1 = c.if-state-ne-PASSED.false in
     let a = c.args in
-    rw (through-held a.state.now a.message.now a.room (held), lt-leb (length a.message.now) 65535 c.if-message-gt-MOST.true) (ap Err c.new-then-message-gt-MOST.ensures, tt, tt)
+    rw (through-held a.state.now a.message.now a.room (held), lt-leb (length a.message.now) 65535 c.if-message-gt-MOST.true) (ap Err c.at_place-then-message-gt-MOST.ensures, tt, tt)
 
 pub returns-then-message-eq0 : goal.returns-then-message-eq0
 unfolding held_outcome
@@ -32,7 +32,7 @@ returns-then-message-eq0 c =
     let held : held_outcome c.args.state.now ≡ 1 = c.if-state-ne-PASSED.false in
     let a = c.args in
     let st = a.state.now in
-    rw (through-held st a.message.now a.room (held) ∙ message-empty (guarded_root st (held_root st)) a.message.now a.room c.if-message-eq0.true) (ap Err c.new-then-message-eq0.ensures, tt, tt)
+    rw (through-held st a.message.now a.room (held) ∙ message-empty (guarded_root st (held_root st)) a.message.now a.room c.if-message-eq0.true) (ap Err c.at_place-then-message-eq0.ensures, tt, tt)
 
 pub returns : goal.returns
 unfolding held_outcome

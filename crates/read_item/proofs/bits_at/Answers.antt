@@ -27,4 +27,4 @@ pub returns : goal.returns
 returns c =
     let a = c.args in
     c.ok_or.ensures.value
-    ∙ ap₂ ok_or (c.fetch.ensures ∙ fetched-front a.message.now a.place.0 a.k (omega (arith, c.if-k-eq0.false))) c.new.ensures
+    ∙ ap₂ ok_or (c.fetch.ensures ∙ fetched-front a.message.now a.place.0 a.k (omega (arith, c.if-k-eq0.false))) c.at_place.ensures

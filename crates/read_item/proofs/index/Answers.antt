@@ -46,4 +46,4 @@ returns c =
     let branches : List Bool = branches_at a.table.now a.from a.m in
     let w = c.width.ensures.0 ∙ ap (λ n. width (n - 1)) (sym (length-branches a.table.now a.from a.m)) in
     let e = front-Ok b p (index_width branches) (rw w at (sym c.bits_at.ensures ∙ c.in_ok-n.was)) in
-    ap Err c.new.ensures ∙ sym (rw (sym c.has_branch.ensures ∙ c.if-has_branch.false) at (index_is branches b p e))
+    ap Err c.at_place.ensures ∙ sym (rw (sym c.has_branch.ensures ∙ c.if-has_branch.false) at (index_is branches b p e))

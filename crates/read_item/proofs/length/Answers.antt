@@ -40,7 +40,7 @@ returns-then-ones-gt1 c =
     let p = a.place.0 in
     let b : List Bool = drop p (unpack a.message.now) in
     let e = front-Ok b p 8 (sym c.octet_at.ensures ∙ c.in_ok-first.was) in
-    ap Err c.new.ensures ∙ sym (length-starts_11 a.least a.most b p e c.ones_of-ones.result c.ones_of-ones.ensures c.if-ones-gt1.true)
+    ap Err c.at_place.ensures ∙ sym (length-starts_11 a.least a.most b p e c.ones_of-ones.result c.ones_of-ones.ensures c.if-ones-gt1.true)
 
 pub returns-in_err-n : goal.returns-in_err-n
 returns-in_err-n c =

@@ -23,7 +23,7 @@ returns-then-span-n c =
     let a = c.args in
     let b : List Bool = drop a.place.0 (unpack a.message.now) in
     let e = front-Ok b a.place.0 (width a.span) (rw c.width.ensures.0 at (sym c.bits_at.ensures ∙ c.in_ok-n.was)) in
-    ap Err c.new.ensures ∙ sym (number-over a.low a.span b a.place.0 e c.if-span-n.true)
+    ap Err c.at_place.ensures ∙ sym (number-over a.low a.span b a.place.0 e c.if-span-n.true)
 
 pub overflow_add-value : goal.overflow_add-value
 overflow_add-value c =

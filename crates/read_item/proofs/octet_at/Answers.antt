@@ -27,4 +27,4 @@ returns-in-None c =
     let a = c.args in
     let outside = ltb-false _ _ (sym c.in-None.ensures.lookup.0) in
     let b = drop a.place.0 (unpack a.message.now) in
-    ap Err c.new.ensures ∙ front_missing b a.place.0 8 (front_past_end b a.place.0 8 (rw (length-drop, length-unpack) (omega arith)))
+    ap Err c.at_place.ensures ∙ front_missing b a.place.0 8 (front_past_end b a.place.0 8 (rw (length-drop, length-unpack) (omega arith)))

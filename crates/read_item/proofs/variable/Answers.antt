@@ -40,7 +40,7 @@ returns-then-ones-gt3 c =
     let p = c.args.place.0 in
     let b : List Bool = drop p (unpack c.args.message.now) in
     let e = front-Ok b p 8 (sym c.octet_at.ensures ∙ c.in_ok-first.was) in
-    ap Err c.new.ensures ∙ sym (variable-starts_1111 b p e c.ones_of-ones.result c.ones_of-ones.ensures c.if-ones-gt3.true)
+    ap Err c.at_place.ensures ∙ sym (variable-starts_1111 b p e c.ones_of-ones.result c.ones_of-ones.ensures c.if-ones-gt3.true)
 
 pub returns-in_err-n : goal.returns-in_err-n
 returns-in_err-n c =

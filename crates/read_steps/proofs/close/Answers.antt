@@ -18,16 +18,16 @@ padding m place all n h e k = let from : 8 * length m - (all - place) ≡ place 
 pub returns-then-message-size : goal.returns-then-message-size
 returns-then-message-size c =
     let a = c.args in
-    ap Err c.new.ensures ∙ other_size a.message.now a.end (λ e. c.if-message-size.true (e ∙ sym c.holding-size.ensures))
+    ap Err c.at_place.ensures ∙ other_size a.message.now a.end (λ e. c.if-message-size.true (e ∙ sym c.holding-size.ensures))
 
 pub returns-then-last_bits-ne0 : goal.returns-then-last_bits-ne0
 returns-then-last_bits-ne0 c =
     let a = c.args in
-    ap Err c.new-then-last_bits-ne0.ensures
+    ap Err c.at_place-then-last_bits-ne0.ensures
     ∙ not-zero a.message.now a.end _ (c.if-message-size.false ∙ c.holding-size.ensures) (padding _ _ _ _ c.requires.1 (omega arith) c.last_bits.ensures) c.if-last_bits-ne0.true
 
 pub returns : goal.returns
 returns c =
     let a = c.args in
-    c.new-2.ensures
+    c.new.ensures
     ∙ all_zero_lem a.message.now a.end _ (c.if-message-size.false ∙ c.holding-size.ensures) (padding _ _ _ _ c.requires.1 (omega arith) c.last_bits.ensures) c.if-last_bits-ne0.false

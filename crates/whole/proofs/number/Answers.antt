@@ -19,7 +19,7 @@ returns-in_default c =
     let m = a.message.now in
     let w = width-octets a.octets c.requires.2 c.requires.3 in
     let short = sym c.fetch-f.ensures ∙ c.in_default.is in
-    rw c.new.ensures
+    rw c.at_place.ensures
     (reads_one (Err _) (keeping (number (pos 0) span) refl (sym (number-ended m a.cursor.place.0 (8 * a.octets) (omega arith) span w short)) (refl, refl, refl)))
 
 pub returns : goal.returns

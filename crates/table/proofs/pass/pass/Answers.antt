@@ -19,47 +19,57 @@ returns-then-table-lt-LEAST_TABLE c =
       | then-table-lt-LEAST_TABLE-via-else-table-lt-LEAST_TABLE+then-table-gt-MOST_TABLE w ↦ too_large w.if-table-gt-MOST_TABLE.true
     ] in
     let f = finds-fault t _ 1 0 fault in
-    (ap Err c.new.ensures ∙ f.0, f.1)
+    (ap Err c.at_place.ensures ∙ f.0, f.1)
 
 -- the walk's beginning
 
-pub loop-at-init : goal.loop-at-init
-loop-at-init c = walk_begins c.args.table.now c.args.depths.now c.requires
+pub loop-left-init : goal.loop-left-init
+loop-left-init c = (omega arith, walk_begins c.args.table.now c.args.depths.now c.requires)
 
 pub returns-in_err-length : goal.returns-in_err-length
 returns-in_err-length c =
     let t = c.args.table.now in
-    let at = c.loop-at.at in
+    let at = c.loop-left.at in
     let met = mapped-Err _ c.row_test-test.result c.map_err.result c.map_err.ensures.cases c.in_err-length.was in
     let told = met.2 in
     let is : c.in_err-length.field-0.0 ≡ refusal_at (reason_number met.0) at = search of_calls in
-    let b = row-refused c.loop-at.invariant c.loop-at-test.true c.if-table-gt-MOST_TABLE.false c.if-table-lt-LEAST_TABLE.false met.0 (sym c.row_test-test.ensures ∙ met.1) in
-    let f = finds-fault t c.loop-at.depths (reason_number met.0) at b in
+    let b = row-refused c.loop-left.invariant.1 (omega (arith, c.loop-left.invariant.0, c.loop-left-test.true)) c.if-table-gt-MOST_TABLE.false c.if-table-lt-LEAST_TABLE.false met.0 (sym c.row_test-test.ensures ∙ met.1) in
+    let f = finds-fault t c.loop-left.depths (reason_number met.0) at b in
     (returned c.from_residual.result c.from_residual.ensures ∙ ap Err is ∙ f.0, f.1)
 
 -- a row that passes
 
 pub bounds-depths-at : goal.bounds-depths-at
-bounds-depths-at c = omega (arith, c.loop-at.invariant.sized)
+bounds-depths-at c = omega (arith, c.loop-left.invariant.0, c.loop-left.invariant.1.sized, c.loop-left-test.true)
+
+pub overflow_add-rows : goal.overflow_add-rows
+overflow_add-rows c = omega (arith, c.loop-left.invariant.0, c.loop-left.invariant.1.few, c.if-table-gt-MOST_TABLE.false)
 
 pub overflow_add-at : goal.overflow_add-at
 overflow_add-at c =
     let passed = sym c.row_test-test.ensures ∙ mapped-Ok _ c.row_test-test.result c.map_err.result c.map_err.ensures.cases c.in_ok-length.was in
-    let on = row-passed c.loop-at.invariant c.loop-at-test.true c.if-table-gt-MOST_TABLE.false c.in_ok-length.length c.in_ok-length.depth passed in
+    let on = row-passed c.loop-left.invariant.1 (omega (arith, c.loop-left.invariant.0, c.loop-left-test.true)) c.if-table-gt-MOST_TABLE.false c.in_ok-length.length c.in_ok-length.depth passed in
     record { fits = omega (arith, on.ends) }
 
-pub loop-at-smaller : goal.loop-at-smaller
-loop-at-smaller c =
+pub overflow_sub-left : goal.overflow_sub-left
+overflow_sub-left c =
     let passed = sym c.row_test-test.ensures ∙ mapped-Ok _ c.row_test-test.result c.map_err.result c.map_err.ensures.cases c.in_ok-length.was in
-    let on = row-passed c.loop-at.invariant c.loop-at-test.true c.if-table-gt-MOST_TABLE.false c.in_ok-length.length c.in_ok-length.depth passed in
-    omega (arith, on.ends, on.four)
+    let on = row-passed c.loop-left.invariant.1 (omega (arith, c.loop-left.invariant.0, c.loop-left-test.true)) c.if-table-gt-MOST_TABLE.false c.in_ok-length.length c.in_ok-length.depth passed in
+    omega (arith, on.ends, c.loop-left.invariant.0)
 
-pub loop-at-preserved : goal.loop-at-preserved
-loop-at-preserved c =
+pub loop-left-smaller : goal.loop-left-smaller
+loop-left-smaller c =
     let passed = sym c.row_test-test.ensures ∙ mapped-Ok _ c.row_test-test.result c.map_err.result c.map_err.ensures.cases c.in_ok-length.was in
-    (row-passed c.loop-at.invariant c.loop-at-test.true c.if-table-gt-MOST_TABLE.false c.in_ok-length.length c.in_ok-length.depth passed).walked
+    let on = row-passed c.loop-left.invariant.1 (omega (arith, c.loop-left.invariant.0, c.loop-left-test.true)) c.if-table-gt-MOST_TABLE.false c.in_ok-length.length c.in_ok-length.depth passed in
+    omega (arith, on.ends, on.four, c.loop-left.invariant.0)
+
+pub loop-left-preserved : goal.loop-left-preserved
+loop-left-preserved c =
+    let passed = sym c.row_test-test.ensures ∙ mapped-Ok _ c.row_test-test.result c.map_err.result c.map_err.ensures.cases c.in_ok-length.was in
+    let on = row-passed c.loop-left.invariant.1 (omega (arith, c.loop-left.invariant.0, c.loop-left-test.true)) c.if-table-gt-MOST_TABLE.false c.in_ok-length.length c.in_ok-length.depth passed in
+    (omega (arith, on.ends, c.loop-left.invariant.0), on.walked)
 
 pub returns : goal.returns
 returns c =
-    let e : c.loop-at.at ≡ length c.args.table.now = omega (arith, c.loop-at.invariant.ready.inside) in
-    finds-rows c.if-table-lt-LEAST_TABLE.false c.if-table-gt-MOST_TABLE.false (rw e at c.loop-at.invariant)
+    let e : c.loop-left.at ≡ length c.args.table.now = omega (arith, c.loop-left.invariant.0, c.loop-left-test.false) in
+    finds-rows c.if-table-lt-LEAST_TABLE.false c.if-table-gt-MOST_TABLE.false (rw e at c.loop-left.invariant.1)
