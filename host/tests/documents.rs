@@ -316,18 +316,24 @@ fn constant_name(variant: &str) -> String {
 #[test]
 fn refusals_are_named_as_in_the_library() {
     const SOURCE: &str = include_str!("../../crates/answer/src/lib.rt");
-    let (_, reasons) = SOURCE
-        .split_once("pub enum Reason {")
-        .expect("the reasons");
+    let (_, reasons) = SOURCE.split_once("pub enum Reason {").expect("the reasons");
     let (reasons, _) = reasons.split_once("\n}").expect("their end");
-    let constants: Vec<_> = reasons
-        .lines()
-        .filter_map(|line| line.trim().strip_suffix(',')?.split_once(" = "))
-        .map(|(name, number)| format!("{}: {number}", constant_name(name)))
-        .collect();
+    let lines = reasons.lines().map(str::trim);
+    let variants = lines.filter(|line| !line.is_empty() && !line.starts_with("//"));
+    let constants = variants.map(|line| {
+        let variant = line
+            .strip_suffix(',')
+            .and_then(|line| line.split_once(" = "));
+        let (name, number) = variant.unwrap_or_else(|| panic!("{line} has no number"));
+        format!("{}: u32 = {number}", constant_name(name))
+    });
+    assert!(
+        SOURCE.contains("\n    pub number: u32,\n"),
+        "a number's type"
+    );
     let named = |&number: &u32| {
         let name = Refusal::name(number).expect("a name");
-        format!("{name}: {number}")
+        format!("{name}: u32 = {number}")
     };
     assert!(Refusal::ALL.iter().map(named).eq(constants));
 }
